@@ -1,0 +1,4 @@
+pub mod Sums
+pub mod Lays
+pub mod Sizes
+pub mod Steps

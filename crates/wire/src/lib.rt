@@ -1,0 +1,20 @@
+// The line: frames and sentences, read and written.
+mod frame;
+mod item;
+mod laying;
+mod place;
+mod reading;
+mod refusal;
+mod sentence;
+mod tries;
+
+pub use frame::frame_sum;
+pub use frame::write_frame;
+pub use item::Frame;
+pub use item::Item;
+pub use place::Place;
+pub use reading::Ending;
+pub use reading::Found;
+pub use reading::read_next;
+pub use refusal::Refusal;
+pub use sentence::write_sentence;
