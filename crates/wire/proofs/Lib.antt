@@ -2,3 +2,11 @@ pub mod Sums
 pub mod Lays
 pub mod Sizes
 pub mod Steps
+pub mod Rules
+pub mod FrameRules
+pub mod FrameForms
+pub mod SentenceRules
+pub mod SentenceForms
+pub mod Judgement
+pub mod Finding
+pub mod Cutting

@@ -4,8 +4,8 @@ use mathlib.Core.List.{List, [], _∷_}
 use Prim.Native.Nat.{ℕ, zero, suc, _+_, _-_, _≤_, _<_}
 use native.Mathlib.Nat.{add-zero}
 use native.Mathlib.Omega.{arith}
-use lib.ListN.{length, getD, take, drop}
-use Rattle.std.proofs.shelf.Lists.{drop-drop, drop-more, drop-all, take-rest}
+use lib.ListN.{length, getD, drop}
+use Rattle.std.proofs.shelf.Lists.{drop-drop, drop-more, drop-all}
 use Rattle.wire.specs.declared.reading.Ending.{Ending}
 use Rattle.wire.specs.Items.{Item, frameItem, sentenceItem, size}
 use Rattle.wire.specs.Tries.{Try, good, unfinished, failed}
@@ -47,20 +47,17 @@ module _ (e : Ending) where
           let later : (n : ℕ) → unreadFrom e n (drop (at + 1) bs) ≡ unreadFrom e 0 (drop (at + (n + 1)) bs) = λ n. unread-skip n (drop (at + 1) bs) ∙ ap (unreadFrom e 0) (on n) in
           ap (unreadFrom e 0) split ∙ (λ i. unreadAt (tryBy e (sym split i)) (sym split i) (λ n. later n i)) ∙ ap (λ u. unreadAt u (drop at bs) (λ n. unreadFrom e 0 (drop (at + (n + 1)) bs))) (sym is)
 
-      -- what one try makes of reading; the bytes are as the code hands them over
-      pub onward-here : (t : Try) → t ≡ tryBy e (take (length bs - at) (drop at bs)) → reading e bs at ≡ onward e bs at t
-      onward-here t is = here t (is ∙ ap (tryBy e) (take-rest bs at))
-        where
-          here : (t : Try) → t ≡ tryBy e (drop at bs) → reading e bs at ≡ onward e bs at t
-          here (good x) is =
-              let some = some-size x in
-              let p : at + (size x - 1 + 1) ≡ at + size x = omega arith in
-              λ i. record {
-                found = (found-here (good x) is ∙ ap (λ k. record { at = at; item = x } ∷ foundFrom e k 0 (drop k bs)) p) i;
-                unread = (unread-here (good x) is ∙ ap (λ k. unreadFrom e 0 (drop k bs)) p) i;
-              }
-          here unfinished is = λ i. record { found = found-here unfinished is i; unread = unread-here unfinished is i }
-          here failed is = λ i. record { found = found-here failed is i; unread = unread-here failed is i }
+      -- what one try makes of reading
+      pub onward-is : (t : Try) → t ≡ tryBy e (drop at bs) → reading e bs at ≡ onward e bs at t
+      onward-is (good x) is =
+          let some = some-size x in
+          let p : at + (size x - 1 + 1) ≡ at + size x = omega arith in
+          λ i. record {
+            found = (found-here (good x) is ∙ ap (λ k. record { at = at; item = x } ∷ foundFrom e k 0 (drop k bs)) p) i;
+            unread = (unread-here (good x) is ∙ ap (λ k. unreadFrom e 0 (drop k bs)) p) i;
+          }
+      onward-is unfinished is = λ i. record { found = found-here unfinished is i; unread = unread-here unfinished is i }
+      onward-is failed is = λ i. record { found = found-here failed is i; unread = unread-here failed is i }
 
     pub none-left : length bs ≤ at → reading e bs at ≡ record { found = []; unread = [] }
     none-left past = let z = drop-all at bs past in λ i. record { found = foundFrom e at 0 (z i); unread = unreadFrom e 0 (z i) }

@@ -21,7 +21,7 @@ abbrev pub size : Item → ℕ
 size (frameItem class id payload) = length payload + 10
 size (sentenceItem body) = length body + 6
 
--- whether its content may be written
-abbrev pub lawful : Item → Bool
-lawful (frameItem class id payload) = lawfulLength (length payload)
-lawful (sentenceItem body) = lawfulBody body
+-- whether its content is lawful
+abbrev pub lawfulItem : Item → Bool
+lawfulItem (frameItem class id payload) = lawfulLength (length payload)
+lawfulItem (sentenceItem body) = lawfulBody body

@@ -5,3 +5,4 @@ pub mod Items
 pub mod Tries
 pub mod Reading
 pub mod Seen
+pub mod Laws

@@ -30,10 +30,10 @@ spent (good x) = size x
 spent unfinished = 0
 spent failed = 0
 
--- a good item has bytes, and they are among those that are there
+-- the bytes of a good item are among those that are there, and an unfinished try has at most 81
 abbrev pub Room : ℕ → Try → Type 0
 Room len (good x) = (0 < size x) × (size x ≤ len)
-Room len unfinished = Unit {0}
+Room len unfinished = len ≤ 81
 Room len failed = Unit {0}
 
 -- an answer, put before what is read from the place that it leaves
@@ -48,8 +48,8 @@ leaves bytes from (FoundGood at x) = at + size (itemOf x)
 leaves bytes from (FoundUnfinished at) = at
 leaves bytes from End = max from (length bytes)
 
--- an answer's bytes stand in the caller's bytes, from the place on
+-- an answer's bytes stand in the caller's bytes, from the place on; at most 81 are left unread
 abbrev pub Stands : List ℕ → ℕ → Found → Type 0
 Stands bytes from (FoundGood at x) = (from ≤ at) × (at < at + size (itemOf x)) × (at + size (itemOf x) ≤ length bytes)
-Stands bytes from (FoundUnfinished at) = (from ≤ at) × (at < length bytes)
+Stands bytes from (FoundUnfinished at) = (from ≤ at) × (at < length bytes) × (length bytes ≤ at + 81)
 Stands bytes from End = Unit {0}

@@ -1,6 +1,7 @@
 // The line: frames and sentences, read and written.
 mod frame;
 mod item;
+mod laws;
 mod laying;
 mod place;
 mod reading;
@@ -12,6 +13,7 @@ pub use frame::frame_sum;
 pub use frame::write_frame;
 pub use item::Frame;
 pub use item::Item;
+pub use laws::line_stands;
 pub use place::Place;
 pub use reading::Ending;
 pub use reading::Found;

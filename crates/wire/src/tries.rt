@@ -1,10 +1,10 @@
 // A try at what begins with a lead byte.
 ghost use mathlib.Core.Path.{_≡_};
-ghost use Prim.Native.Nat.{ℕ, _+_, _^_, _<_, _≤_};
+ghost use Prim.Native.Nat.{_+_, _^_, _<_, _≤_};
 ghost use lib.ListN.{length, getD, take, drop};
 ghost use Rattle.wire.specs.Frames.{bytes4};
 ghost use Rattle.wire.specs.Tries.{stand, lengthOf, frameTry, isDigit, starOf, bodyTo, digitsStand, fromStar, ended, sentenceTry, tryOf};
-ghost use Rattle.wire.specs.Seen.{seen, spent, Room};
+ghost use Rattle.wire.specs.Seen.{seen, spent};
 use crate::frame::LEAD;
 use crate::frame::frame_sum;
 use crate::item::Frame;
@@ -56,7 +56,6 @@ fn try_frame<'b>(bytes: &'b [u8], place: &mut Place) -> Verdict<'b>
     requires { ⌜ now place .at + length (now bytes) < 2 ^ 64 ⌝ }
     ensures verdict { λ r. ⌜ seen r ≡ frameTry (now (bytes .entry)) ⌝ }
     ensures place { λ r. ⌜ now (place .exit) .at ≡ now (place .entry) .at + spent (seen r) ⌝ }
-    ensures room { λ r. ⌜ Room (length (now (bytes .entry))) (seen r) ⌝ }
 {
     let lead = place.at;
     let mut attempt = Attempt {
@@ -123,7 +122,6 @@ fn try_sized<'b>(bytes: &'b [u8], place: &mut Place) -> Verdict<'b>
     requires { ⌜ 0 < length (now bytes) ⌝ ∗ ⌜ now place .at + length (now bytes) < 2 ^ 64 ⌝ }
     ensures verdict { λ r. ⌜ seen r ≡ fromStar (now (bytes .entry)) (starOf (now (bytes .entry))) ⌝ }
     ensures place { λ r. ⌜ now (place .exit) .at ≡ now (place .entry) .at + spent (seen r) ⌝ }
-    ensures room { λ r. ⌜ Room (length (now (bytes .entry))) (seen r) ⌝ }
 {
     let lead = place.at;
     let mut attempt = Attempt {
@@ -173,7 +171,6 @@ fn try_sized<'b>(bytes: &'b [u8], place: &mut Place) -> Verdict<'b>
 pub fn without_more(verdict: Verdict<'_>) -> Verdict<'_>
     ensures verdict { λ r. ⌜ seen r ≡ ended (seen (verdict .entry)) ⌝ }
     ensures spends { λ r. ⌜ spent (seen r) ≡ spent (seen (verdict .entry)) ⌝ }
-    ensures room { λ r. ⌜ ((n : ℕ) → Room n (seen (verdict .entry)) → Room n (seen r)) ⌝ }
 {
     match verdict {
         Verdict::Good(item) => Verdict::Good(item),
@@ -187,7 +184,6 @@ fn try_sentence<'b>(bytes: &'b [u8], place: &mut Place) -> Verdict<'b>
     requires { ⌜ 0 < length (now bytes) ⌝ ∗ ⌜ now place .at + length (now bytes) < 2 ^ 64 ⌝ }
     ensures verdict { λ r. ⌜ seen r ≡ sentenceTry (now (bytes .entry)) ⌝ }
     ensures place { λ r. ⌜ now (place .exit) .at ≡ now (place .entry) .at + spent (seen r) ⌝ }
-    ensures room { λ r. ⌜ Room (length (now (bytes .entry))) (seen r) ⌝ }
 {
     if bytes.len() < LONGEST {
         return try_sized(bytes, place);
@@ -200,7 +196,6 @@ pub fn try_here<'b>(bytes: &'b [u8], place: &mut Place) -> Verdict<'b>
     requires { ⌜ now place .at + length (now bytes) < 2 ^ 64 ⌝ }
     ensures verdict { λ r. ⌜ seen r ≡ tryOf (now (bytes .entry)) ⌝ }
     ensures place { λ r. ⌜ now (place .exit) .at ≡ now (place .entry) .at + spent (seen r) ⌝ }
-    ensures room { λ r. ⌜ Room (length (now (bytes .entry))) (seen r) ⌝ }
 {
     match bytes {
         [] => Verdict::Unfinished,
