@@ -1,18 +1,12 @@
--- Three parts pasted one behind the other are a form that fits.
+-- Three parts pasted one behind the other.
 use mathlib.Core.Path.{_≡_, refl, sym, ap, _∙_}
-use mathlib.Core.Bool.{true, false}
 use mathlib.Core.List.{List, _++_, append-assoc}
-use Prim.Native.Nat.{ℕ, _+_, _≤_, _<_}
+use Prim.Native.Nat.{ℕ, _+_}
 use native.Mathlib.Nat.{zero-add}
 use native.Mathlib.Omega.{arith}
-use lib.Dec.{leb}
 use lib.ListN.{length, drop, length-append}
 use lib.Seq.{paste}
 use Rattle.std.proofs.shelf.Edits.{paste-paste, paste-all}
-use Rattle.std.proofs.shelf.Tests.{le-leb, lt-leb}
-use Rattle.std.specs.declared.result.Result.the-variants.{Ok, Err}
-use Rattle.wire.specs.declared.refusal.Refusal.the-variants.{OutputTooShort}
-use Rattle.wire.specs.Writes.{fitted}
 
 laid : (d h p s : List ℕ) → paste (paste (paste d 0 h (length h)) (length h) p (length p)) (length h + length p) s (length s) ≡ (h ++ (p ++ s)) ++ drop (length h + length p + length s) d
 laid d h p s =
@@ -22,15 +16,9 @@ laid d h p s =
     let all = paste-all d 0 ((h ++ p) ++ s) (length h + length p + length s) (simp length-append (omega arith)) in
     ap (λ l. paste l (length h + length p) s (length s)) one ∙ two ∙ all ∙ (λ i. append-assoc h p s i ++ drop (zero-add (length h + length p + length s) i) d)
 
-module _ (h p s d : List ℕ) where
-  size : length (h ++ (p ++ s)) ≡ length h + length p + length s
-  size = simp length-append (omega arith)
+pub size : (h p s : List ℕ) → length h + length p + length s ≡ length (h ++ (p ++ s))
+size h p s = simp length-append (omega arith)
 
-  pub fits : (o₁ o₂ o₃ : List ℕ) → length h + length p + length s ≤ length d → o₁ ≡ paste d 0 h (length h) → o₂ ≡ paste o₁ (length h) p (length p) → o₃ ≡ paste o₂ (length h + length p) s (length s) → (Ok (length h + length p + length s), o₃) ≡ fitted (h ++ (p ++ s)) d
-  fits o₁ o₂ o₃ room e₁ e₂ e₃ =
-      let ok : leb (length h + length p + length s) (length d) ≡ true = le-leb _ _ room in
-      let all = e₃ ∙ ap (λ o. paste o (length h + length p) s (length s)) (e₂ ∙ ap (λ o. paste o (length h) p (length p)) e₁) ∙ laid d h p s in
-      rw (size, ok) (ap (λ o. (Ok (length h + length p + length s), o)) all)
-
-  pub short : length d < length h + length p + length s → (Err OutputTooShort, d) ≡ fitted (h ++ (p ++ s)) d
-  short less = let no : leb (length h + length p + length s) (length d) ≡ false = lt-leb _ _ less in rw (size, no)
+pub laid-all : (d h p s o₁ o₂ o₃ : List ℕ) → o₁ ≡ paste d 0 h (length h) → o₂ ≡ paste o₁ (length h) p (length p) → o₃ ≡ paste o₂ (length h + length p) s (length s) → o₃ ≡ (h ++ (p ++ s)) ++ drop (length (h ++ (p ++ s))) d
+laid-all d h p s o₁ o₂ o₃ e₁ e₂ e₃ =
+    e₃ ∙ ap (λ o. paste o (length h + length p) s (length s)) (e₂ ∙ ap (λ o. paste o (length h) p (length p)) e₁) ∙ laid d h p s ∙ ap (λ n. (h ++ (p ++ s)) ++ drop n d) (size h p s)

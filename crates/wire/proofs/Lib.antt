@@ -10,3 +10,4 @@ pub mod SentenceForms
 pub mod Judgement
 pub mod Finding
 pub mod Cutting
+pub mod Backs

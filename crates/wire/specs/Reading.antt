@@ -7,10 +7,13 @@ use Rattle.wire.specs.declared.reading.Ending.the-variants.{More, Pause}
 use Rattle.wire.specs.Items.{Item, size}
 use Rattle.wire.specs.Tries.{Try, good, unfinished, failed, ended, tryOf}
 
--- how tries are judged: more bytes may come, or a pause makes every unfinished try fail
+-- more bytes may come, or a pause makes an unfinished try fail
+abbrev pub endedBy : Ending → Try → Try
+endedBy More t = t
+endedBy Pause t = ended t
+
 abbrev pub tryBy : Ending → List ℕ → Try
-tryBy More bytes = tryOf bytes
-tryBy Pause bytes = ended (tryOf bytes)
+tryBy ending bytes = endedBy ending (tryOf bytes)
 
 -- an item and the place of its lead byte
 pub record Placed : Type 0 where

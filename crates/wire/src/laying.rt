@@ -2,7 +2,7 @@
 ghost use mathlib.Core.Path.{_≡_};
 ghost use mathlib.Core.List.{_++_};
 ghost use Prim.Native.Nat.{_+_, _≤_};
-ghost use lib.ListN.{length};
+ghost use lib.ListN.{length, drop};
 ghost use lib.Seq.{paste};
 ghost use Rattle.wire.specs.Writes.{fitted};
 use crate::refusal::Refusal;
@@ -15,17 +15,34 @@ fn put(out: &mut [u8], at: usize, part: &[u8])
     out[at..at + part.len()].copy_from_slice(part);
 }
 
+// Copies three parts to the start of `out`, one behind the other.
+fn put_all(head: &[u8], middle: &[u8], tail: &[u8], out: &mut [u8])
+    requires { ⌜ length (now head) + length (now middle) + length (now tail) ≤ length (now out) ⌝ }
+    ensures { λ _. ⌜ now (out .exit) ≡ (now (head .entry) ++ (now (middle .entry) ++ now (tail .entry))) ++ drop (length (now (head .entry) ++ (now (middle .entry) ++ now (tail .entry)))) (now (out .entry)) ⌝ }
+{
+    put(out, 0, head);
+    put(out, head.len(), middle);
+    put(out, head.len() + middle.len(), tail);
+}
+
+// How many bytes three parts have.
+fn size_of(head: &[u8], middle: &[u8], tail: &[u8]) -> usize
+    requires { ⌜ length (now head) + length (now middle) + length (now tail) ≤ 82 ⌝ }
+    ensures sum { λ r. ⌜ r ≡ length (now (head .entry)) + length (now (middle .entry)) + length (now (tail .entry)) ⌝ }
+    ensures form { λ r. ⌜ r ≡ length (now (head .entry) ++ (now (middle .entry) ++ now (tail .entry))) ⌝ }
+{
+    head.len() + middle.len() + tail.len()
+}
+
+// Writes three parts to the start of `out`, one behind the other, and gives their length.
 pub fn lay(head: &[u8], middle: &[u8], tail: &[u8], out: &mut [u8]) -> Result<usize, Refusal>
     requires { ⌜ length (now head) + length (now middle) + length (now tail) ≤ 82 ⌝ }
     ensures { λ r. ⌜ (r, now (out .exit)) ≡ fitted (now (head .entry) ++ (now (middle .entry) ++ now (tail .entry))) (now (out .entry)) ⌝ }
 {
-    let front = head.len() + middle.len();
-    let size = front + tail.len();
+    let size = size_of(head, middle, tail);
     if out.len() < size {
         return Err(Refusal::OutputTooShort);
     }
-    put(out, 0, head);
-    put(out, head.len(), middle);
-    put(out, front, tail);
+    put_all(head, middle, tail, out);
     Ok(size)
 }

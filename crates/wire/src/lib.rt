@@ -19,4 +19,7 @@ pub use reading::Ending;
 pub use reading::Found;
 pub use reading::read_next;
 pub use refusal::Refusal;
+pub use refusal::RefusalDebug;
+pub use refusal::RefusalEq;
+pub use refusal::RefusalPartialEq;
 pub use sentence::write_sentence;

@@ -2,7 +2,7 @@
 ghost use mathlib.Core.Path.{_≡_};
 ghost use Prim.Native.Nat.{_+_, _-_, _<_};
 ghost use lib.ListN.{length};
-ghost use Rattle.wire.specs.Reading.{reading, onward};
+ghost use Rattle.wire.specs.Reading.{endedBy, reading, onward};
 ghost use Rattle.wire.specs.Seen.{seen, spent, Room, told, leaves, Stands};
 use crate::item::Item;
 use crate::place::Place;
@@ -25,6 +25,17 @@ pub enum Found<'a> {
     End,
 }
 
+// A verdict, with what follows the bytes.
+fn end_by(verdict: Verdict<'_>, ending: Ending) -> Verdict<'_>
+    ensures verdict { λ r. ⌜ seen r ≡ endedBy ending (seen (verdict .entry)) ⌝ }
+    ensures spends { λ r. ⌜ spent (seen r) ≡ spent (seen (verdict .entry)) ⌝ }
+{
+    match ending {
+        Ending::More => verdict,
+        Ending::Pause => without_more(verdict),
+    }
+}
+
 // A try at the bytes from the place on, with what follows them.
 fn try_at<'b>(bytes: &'b [u8], ending: Ending, place: &mut Place) -> Verdict<'b>
     requires { ⌜ now place .at < length (now bytes) ⌝ }
@@ -33,11 +44,7 @@ fn try_at<'b>(bytes: &'b [u8], ending: Ending, place: &mut Place) -> Verdict<'b>
     ensures room { λ r. ⌜ Room (length (now (bytes .entry)) - now (place .entry) .at) (seen r) ⌝ }
 {
     let lead = place.at;
-    let verdict = try_here(&bytes[lead..], place);
-    match ending {
-        Ending::More => verdict,
-        Ending::Pause => without_more(verdict),
-    }
+    end_by(try_here(&bytes[lead..], place), ending)
 }
 
 // The next good frame or sentence from the place on, and the place behind it.

@@ -15,6 +15,7 @@ use Rattle.wire.proofs.Judgement.{sizes, begins-good}
 use Rattle.wire.proofs.Steps.{onward-is, some-size}
 use Rattle.wire.proofs.Finding.{finds, suffix, few-unread, none-unread, outside, waiting}
 use Rattle.wire.proofs.Cutting.{found-pieces, unread-pieces, at-start, quiet-moved}
+use Rattle.wire.proofs.Backs.{back}
 use Rattle.wire.proofs.laws.line_stands.Needs as need
 
 read : (w : List ℕ) → Read w
@@ -33,19 +34,6 @@ read w =
       first = outside w w 0 0 0 rest refl (omega arith) (λ a low high waits. absurd (omega arith)) size-is;
       waits = ⊎-elim (λ (empty : length u ≡ 0). inl (omega arith)) (λ (here : Waits w rest). inr here) (waiting w w 0 0 rest refl size-is);
       unread = tail .1;
-    }
-
-back : (x : Item) (behind : List ℕ) (ending : Ending) → lawfulItem x ≡ true → Back x behind ending
-back x behind ending ok =
-    let w = form x ++ behind in
-    let some = some-size x in
-    let is = begins-good ending w 0 x (record { lawful = ok; behind = behind; stands = refl }) in
-    let long = length-append (form x) behind in
-    let place : 0 + size x ≡ length (form x) = omega (arith, sizes x) in
-    let here = onward-is ending w 0 (omega arith) (good x) (sym is) in
-    record {
-      found = ap (λ r. r .found) here ∙ ap (λ n. record { at = 0; item = x } ∷ reading ending w n .found) place;
-      unread = ap (λ r. r .unread) here ∙ ap (λ n. reading ending w n .unread) place;
     }
 
 pub returns : need.returns

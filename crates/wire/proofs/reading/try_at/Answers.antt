@@ -5,8 +5,8 @@ use native.Mathlib.Omega.{arith}
 use lib.ListN.{length, take, drop, length-drop}
 use Rattle.std.proofs.shelf.Lists.{take-rest}
 use Rattle.wire.specs.declared.reading.Ending.{Ending}
-use Rattle.wire.specs.Tries.{Try, ended}
-use Rattle.wire.specs.Reading.{tryBy, reading, onward}
+use Rattle.wire.specs.Tries.{Try}
+use Rattle.wire.specs.Reading.{endedBy, tryBy, reading, onward}
 use Rattle.wire.specs.Seen.{seen, Room}
 use Rattle.wire.proofs.Steps.{onward-is}
 use Rattle.wire.proofs.Judgement.{room}
@@ -18,18 +18,9 @@ here e bs at t inside is =
     let whole = is ∙ ap (tryBy e) (take-rest bs at) in
     (onward-is e bs at inside t whole, subst (λ n. Room n t) (length-drop at bs) (room e (drop at bs) t (simp length-drop (omega arith)) whole))
 
-pub returns-in-More : need.returns-in-More
-returns-in-More c =
-    let bs = c .args .bytes .now in
+pub returns : need.returns
+returns c =
     let at = c .args .place .now .at in
-    let is = c .try-here-verdict .ensures .verdict ∙ ap (λ e. tryBy e (take (length bs - at) (drop at bs))) (sym (c .in-More .is)) in
-    let both = here (c .args .ending) bs at (seen (c .try-here-verdict .result)) (c .pre) is in
-    record { reads = both .0; place = c .try-here-verdict .ensures .place; room = both .1 }
-
-pub returns-in-Pause : need.returns-in-Pause
-returns-in-Pause c =
-    let bs = c .args .bytes .now in
-    let at = c .args .place .now .at in
-    let is = c .without-more .ensures .verdict ∙ ap ended (c .try-here-verdict .ensures .verdict) ∙ ap (λ e. tryBy e (take (length bs - at) (drop at bs))) (sym (c .in-Pause .is)) in
-    let both = here (c .args .ending) bs at (seen (c .without-more .result)) (c .pre) is in
-    record { reads = both .0; place = c .try-here-verdict .ensures .place ∙ ap (λ n. at + n) (sym (c .without-more .ensures .spends)); room = both .1 }
+    let is = c .end-by .ensures .verdict ∙ ap (endedBy (c .args .ending)) (c .try-here .ensures .verdict) in
+    let both = here (c .args .ending) (c .args .bytes .now) at (seen (c .end-by .result)) (c .pre) is in
+    record { reads = both .0; place = c .try-here .ensures .place ∙ ap (λ n. at + n) (sym (c .end-by .ensures .spends)); room = both .1 }
