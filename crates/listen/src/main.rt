@@ -177,11 +177,12 @@ fn run(rt: &LibcRuntime) -> Result<(), AnyError> {
 // Prints the unfinished try, what a pause finds in it, and how many bytes were stray.
 fn finish(rt: &LibcRuntime, unread: &[u8], held: Held) -> io::Result<()> {
     let start = held.start;
-    if !unread.is_empty() {
+    if let [lead, ..] = unread {
+        let kind = if *lead == b'$' { "sentence" } else { "frame" };
         let len = unread.len();
         println!(
             rt,
-            "{start:>8}  unfinished try of {len} bytes; in it, after a pause:"
+            "{start:>8}  unfinished {kind} of {len} bytes; after a pause:"
         )?;
     }
     let last = list(rt, unread, Ending::Pause, start)?;

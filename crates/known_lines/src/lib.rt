@@ -1,0 +1,3 @@
+// The messages of known fixes, byte for byte.
+#[cfg(test)]
+mod tests;
