@@ -121,7 +121,9 @@ pub impl SettingsMemory for Battery as BatteryMemory {
     }
 
     fn read(&self, section: u8, out: &mut [u8]) -> Result<Option<usize>, Refusal> {
-        let start = place(section)?;
+        let Ok(start) = place(section) else {
+            return Err(Refusal::UnknownSection);
+        };
         if out.len() < LONGEST {
             return Err(Refusal::BufferTooShort);
         }

@@ -9,7 +9,8 @@ use Rattle.std.specs.Options.{isSome}
 use Rattle.std.specs.declared.option.Option.{Option}
 use Rattle.std.specs.declared.option.Option.the-variants.{Some, None}
 use Rattle.std.specs.shelf.Lists.{All}
-use Rattle.wire.specs.Frames.{frame, bytes4}
+use Rattle.numbers.specs.Bytes.{bytes4}
+use Rattle.wire.specs.Frames.{frame}
 use Rattle.wire.specs.Sentences.{sentence, lawfulBody}
 use Rattle.wire.specs.Writes.{fitted, sentenceWritten}
 use Rattle.wire.specs.declared.refusal.Refusal.the-variants.{Body}

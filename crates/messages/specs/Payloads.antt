@@ -5,7 +5,7 @@ use Prim.Native.Nat.{ℕ, _%_}
 use lib.Dec.{eqb}
 use Rattle.std.specs.declared.option.Option.{Option}
 use Rattle.std.specs.declared.option.Option.the-variants.{Some, None}
-use Rattle.wire.specs.Frames.{bytes2, bytes4}
+use Rattle.numbers.specs.Bytes.{bytes2, bytes4}
 use Rattle.fix.specs.declared.checked.CheckedPosition.{CheckedPosition}
 use Rattle.fix.specs.declared.checked.CheckedFix.{CheckedFix}
 

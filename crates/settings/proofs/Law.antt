@@ -13,7 +13,8 @@ use Rattle.std.specs.declared.option.Option.the-variants.{Some, None}
 use Rattle.settings.specs.declared.names.Section.{Section}
 use Rattle.settings.specs.declared.names.Section.the-variants.{Port, Messages, Navigation, Pulse, Group}
 use Rattle.settings.specs.declared.values.Settings.{Settings}
-use Rattle.settings.specs.Bytes.{u4-at, four-at, five-of}
+use Rattle.numbers.specs.Bytes.{u4-at}
+use Rattle.settings.specs.Bytes.{four-at, five-of}
 use Rattle.settings.specs.Ranges.{interval-in-range, systems-in-range, pulse-in-range}
 use Rattle.settings.specs.Values.{Values, values}
 use Rattle.settings.specs.Strings.{kept-string, read-back}

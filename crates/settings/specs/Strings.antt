@@ -8,7 +8,8 @@ use Rattle.std.specs.declared.option.Option.{Option}
 use Rattle.std.specs.declared.option.Option.the-variants.{Some, None}
 use Rattle.settings.specs.declared.names.Section.{Section}
 use Rattle.settings.specs.declared.names.Section.the-variants.{Port, Messages, Navigation, Pulse, Group}
-use Rattle.settings.specs.Bytes.{u2, u4, u2-at, u4-at, four-at, five-of}
+use Rattle.numbers.specs.Bytes.{bytes2, bytes4, u2-at, u4-at}
+use Rattle.settings.specs.Bytes.{four-at, five-of}
 use Rattle.settings.specs.Ranges.{baud-in-range, interval-in-range, systems-in-range, pulse-in-range}
 use Rattle.settings.specs.Values.{Navigation-values, Pulse-values, Values}
 
@@ -18,7 +19,7 @@ navigation-at b = record { interval = u2-at b 0; systems = getD b 2 0 }
 
 -- the sixteen bytes of the pulse setting
 abbrev pub pulse-string : Pulse-values → List ℕ
-pulse-string p = u4 (p .interval) ++ (u4 (p .width) ++ (p .enable ∷ (p .polarity ∷ (p .reference ∷ (p .source ∷ four-at (p .delay) 0)))))
+pulse-string p = bytes4 (p .interval) ++ (bytes4 (p .width) ++ (p .enable ∷ (p .polarity ∷ (p .reference ∷ (p .source ∷ four-at (p .delay) 0)))))
 
 -- the pulse setting that sixteen bytes name
 abbrev pub pulse-at : List ℕ → Pulse-values
@@ -28,7 +29,7 @@ pulse-at b = record { interval = u4-at b 0; width = u4-at b 4; enable = getD b 8
 abbrev pub kept-string : Values → Section → List ℕ
 kept-string v Port = v .baud ∷ []
 kept-string v Messages = v .rates
-kept-string v Navigation = u2 (v .interval) ++ (v .systems ∷ [])
+kept-string v Navigation = bytes2 (v .interval) ++ (v .systems ∷ [])
 kept-string v Pulse = pulse-string (v .pulse)
 kept-string v Group = v .group
 

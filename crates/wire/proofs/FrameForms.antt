@@ -8,7 +8,8 @@ use lib.Dec.{leb, ltb, eqb}
 use lib.ListN.{length, getD, take, drop, length-append, length-drop}
 use Rattle.std.proofs.shelf.Lists.{getD-append-add, take-append-drop, drop-drop, drop-more, length-take-le, take-at}
 use Rattle.std.proofs.shelf.Tests.{lt-ltb, eq-eqb, eqb-true, leb-true, and-from, and-parts}
-use Rattle.wire.specs.Frames.{frameSum, frame, header, bytes2, bytes4, lawfulLength}
+use Rattle.numbers.specs.Bytes.{bytes2, bytes4}
+use Rattle.wire.specs.Frames.{frameSum, frame, header, lawfulLength}
 use Rattle.wire.specs.Items.{Item, frameItem, form, size, lawfulItem}
 use Rattle.wire.specs.Tries.{Try, good, unfinished, failed, judged, stand, lengthOf, payloadOf, sumStands, wholeFrame, frameFromSum, frameFromLength, frameTry}
 use Rattle.wire.specs.Laws.{Begins}

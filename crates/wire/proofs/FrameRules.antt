@@ -8,7 +8,8 @@ use lib.Dec.{leb, ltb, eqb}
 use lib.ListN.{length, getD, take, drop, length-append, length-drop}
 use Rattle.std.proofs.shelf.Lists.{getD-append-left, getD-append-add, take-append-le, drop-append-le, take-append-drop, drop-drop, drop-more, length-take-le, take-at}
 use Rattle.std.proofs.shelf.Tests.{le-leb, lt-ltb, eq-eqb, eqb-true, leb-true, and-from, and-parts}
-use Rattle.wire.specs.Frames.{frameSum, frame, header, bytes4, lawfulLength}
+use Rattle.numbers.specs.Bytes.{bytes4}
+use Rattle.wire.specs.Frames.{frameSum, lawfulLength}
 use Rattle.wire.specs.Items.{Item, frameItem, sentenceItem, form, size, lawfulItem}
 use Rattle.wire.specs.Tries.{Try, good, unfinished, failed, judged, stand, lengthOf, payloadOf, sumStands, wholeFrame, frameFromSum, frameFromLength, frameTry}
 use Rattle.wire.proofs.Rules.{Stays, Fits, Few, judged-stays, judged-has}

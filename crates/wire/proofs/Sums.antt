@@ -5,7 +5,8 @@ use Prim.Native.Nat.{ℕ, _+_, _*_, _%_, _^_, _<_}
 use native.Mathlib.Nat.{mod-add-mod, mod-eq-of-lt}
 use native.Mathlib.Omega.{arith}
 use lib.ListN.{length, getD}
-use Rattle.wire.specs.Frames.{word, wordSum}
+use Rattle.numbers.specs.Bytes.{word}
+use Rattle.wire.specs.Frames.{wordSum}
 
 -- the first four bytes are the first word
 first-word : (w ys : List ℕ) → length w ≡ 4 → wordSum (w ++ ys) ≡ word (getD w 0 0) (getD w 1 0) (getD w 2 0) (getD w 3 0) + wordSum ys

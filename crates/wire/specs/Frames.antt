@@ -1,13 +1,10 @@
 -- The written form of a frame.
 use mathlib.Core.Bool.{Bool, _&&_}
 use mathlib.Core.List.{List, [], _∷_, _++_}
-use Prim.Native.Nat.{ℕ, _+_, _*_, _/_, _%_, _^_}
+use Prim.Native.Nat.{ℕ, _+_, _*_, _%_, _^_}
 use lib.Dec.{leb, eqb}
 use lib.ListN.{length}
-
--- four bytes as a number, low byte first
-abbrev pub word : ℕ → ℕ → ℕ → ℕ → ℕ
-word a b c d = a + b * 2 ^ 8 + c * 2 ^ 16 + d * 2 ^ 24
+use Rattle.numbers.specs.Bytes.{word, bytes2, bytes4}
 
 -- the words of some bytes, added up; a tail below four bytes is no word
 abbrev pub wordSum : List ℕ → ℕ
@@ -20,13 +17,6 @@ wordSum (a ∷ b ∷ c ∷ d ∷ bytes) = word a b c d + wordSum bytes
 -- the sum of a frame: the header word and every payload word, the low 32 bits kept
 abbrev pub frameSum : ℕ → ℕ → List ℕ → ℕ
 frameSum class id payload = (id * 2 ^ 24 + class * 2 ^ 16 + length payload + wordSum payload) % 2 ^ 32
-
--- a number as two and as four bytes, low byte first
-abbrev pub bytes2 : ℕ → List ℕ
-bytes2 n = n % 256 ∷ n / 2 ^ 8 % 256 ∷ []
-
-abbrev pub bytes4 : ℕ → List ℕ
-bytes4 n = n % 256 ∷ n / 2 ^ 8 % 256 ∷ n / 2 ^ 16 % 256 ∷ n / 2 ^ 24 % 256 ∷ []
 
 -- the two bytes that every frame starts with
 abbrev pub lead : List ℕ

@@ -1,11 +1,12 @@
 -- What becomes of a try at the bytes from a lead byte on: each rule is judged at the byte that it needs.
 use mathlib.Core.Bool.{Bool, true, cond, _&&_, _||_}
 use mathlib.Core.List.{List, [], _∷_}
-use Prim.Native.Nat.{ℕ, _+_, _-_, _*_, _/_, _%_, _^_}
+use Prim.Native.Nat.{ℕ, _+_, _-_, _/_, _%_}
 use lib.Dec.{leb, ltb, eqb}
 use lib.ListN.{length, getD, take, drop}
 use Rattle.std.specs.shelf.Lists.{leading}
-use Rattle.wire.specs.Frames.{frameSum, bytes4, lawfulLength}
+use Rattle.numbers.specs.Bytes.{bytes4, u2-at}
+use Rattle.wire.specs.Frames.{frameSum, lawfulLength}
 use Rattle.wire.specs.Sentences.{isBody, checksum, hexDigit}
 use Rattle.wire.specs.Items.{Item, frameItem, sentenceItem}
 
@@ -26,7 +27,7 @@ stand bytes i (b ∷ rest) = eqb (getD bytes i 0) b && stand bytes (i + 1) rest
 
 -- the payload length and the payload that a frame's first bytes tell
 abbrev pub lengthOf : List ℕ → ℕ
-lengthOf bytes = getD bytes 2 0 + getD bytes 3 0 * 2 ^ 8
+lengthOf bytes = u2-at bytes 2
 
 abbrev pub payloadOf : List ℕ → List ℕ
 payloadOf bytes = take (lengthOf bytes) (drop 6 bytes)

@@ -2,7 +2,7 @@
 ghost use mathlib.Core.Path.{_≡_};
 ghost use Prim.Native.Nat.{_+_, _^_, _<_, _≤_};
 ghost use lib.ListN.{length, getD, take, drop};
-ghost use Rattle.wire.specs.Frames.{bytes4};
+ghost use Rattle.numbers.specs.Bytes.{bytes4};
 ghost use Rattle.wire.specs.Tries.{stand, lengthOf, frameTry, isDigit, starOf, bodyTo, digitsStand, fromStar, ended, sentenceTry, tryOf};
 ghost use Rattle.wire.specs.Seen.{seen, spent};
 use crate::frame::LEAD;

@@ -16,7 +16,7 @@ pub returns : need.returns
 returns c =
     let xs = c .args .self .now .image in
     let s = c .args .section in
-    let at = c .in-Continue-start .start in
+    let at = c .in-Ok .start in
     let k : known s ≡ true = grind (arith, tells) in
     let a : at ≡ start s = grind (arith, tells) in
     let n : at + 64 - at ≡ 64 = omega arith in
