@@ -1,7 +1,7 @@
 // Battery memory: an image of 320 bytes, in which a write costs nothing.
 ghost use Prim.Native.Nat.{_+_, _<_, _≤_};
 ghost use mathlib.Core.Bool.{not};
-ghost use mathlib.Core.Path.{_≡_};
+ghost use mathlib.Core.Path.{_≡_, refl};
 ghost use lib.ListN.{length, set};
 ghost use Rattle.std.specs.Options.{mapped};
 ghost use Rattle.std.specs.Results.{isOk};
@@ -94,6 +94,8 @@ pub impl SettingsMemory for Battery as BatteryMemory {
     ghost meaning = { λ b. battery-meaning (b .image) };
 
     ghost limits = { λ b. battery-limits (b .image) };
+
+    ghost fixed = { λ b c. refl };
 
     fn keep(&mut self, section: u8, bytes: &[u8]) -> Result<(), Refusal>
         ensures answer { λ r. ⌜ r ≡ keep-answer (battery-meaning (now (self .entry) .image)) section (now (bytes .entry)) ⌝ }

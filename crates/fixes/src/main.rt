@@ -8,6 +8,7 @@ use print::print_messages;
 use print::print_refusal;
 use settings::Systems;
 use std::env;
+use std::error::AnyError;
 use std::io;
 use std::io::BufRead;
 use std::io::BufReader;
@@ -24,7 +25,7 @@ NAV-TIMEUTC in hex and field by field; or why the fix is refused.
 
 A fix is one line of seven words, or of thirteen if it has a position:
   date           year-month-day
-  time           hour:minute:second.ms, with three digits of ms
+  time           hour:minute:second.ms, ms a number of at least three digits
   systems        1 to 7: the sum of 1 for GPS, 2 for BeiDou and 4 for GLONASS
   run time       in ms
   time accuracy  eight hex digits, in the order in which they are sent
@@ -87,21 +88,25 @@ fn print_all(rt: &LibcRuntime) -> io::Result<()> {
     Ok(())
 }
 
-fn run(rt: &LibcRuntime) -> io::Result<()> {
+fn run(rt: &LibcRuntime) -> Result<(), AnyError> {
     let mut args = env::args(rt)?;
     let _name = args.next();
     match args.next() {
         Some(arg) => {
-            if arg.as_str() == "--help" {
-                println!(rt, "{HELP}")
-            } else {
-                eprintln!(rt, "fixes: it takes no argument but --help")
+            if arg.as_str() != "--help" {
+                return Err("no argument but --help is taken; the fixes come on standard input".into());
             }
+            println!(rt, "{HELP}")?;
         }
-        None => print_all(rt),
+        None => print_all(rt)?,
     }
+    Ok(())
 }
 
-fn main(rt: LibcRuntime) -> io::Result<()> {
-    rt.report(run(&rt))
+fn main(rt: LibcRuntime) -> Result<(), AnyError> {
+    let outcome = run(&rt);
+    if let Err(e) = &outcome {
+        eprintln!(rt, "fixes: {e}")?;
+    }
+    outcome
 }

@@ -1,4 +1,4 @@
--- What a write into the first slot after the last one not free leaves of the meaning.
+-- What a write into the slot behind the last used one leaves of the meaning.
 use mathlib.Core.Path.{_≡_, refl, sym, ap, ap₂, _∙_, fun-ext}
 use mathlib.Core.Logic.{inl, inr, ⊎-elim}
 use mathlib.Core.Bool.{true, false, cond, _&&_}
@@ -39,7 +39,7 @@ latest-same : (xs ys : List ℕ) (s n : ℕ) → ((j : ℕ) → j < n → slot y
 latest-same xs ys s zero h = refl
 latest-same xs ys s (suc n) h = ap₂ (λ p o. cond (names p s) (content p) o) (h n (omega arith)) (latest-same xs ys s n (λ j l. h j (omega arith)))
 
--- a write of w into the first slot after the last one not free
+-- a write of w into the slot behind the last used one
 module _ (xs w : List ℕ) (small : length w ≤ 64) (room : used xs (slots xs) < slots xs) where
   fits : 64 * used xs (slots xs) + length w ≤ length xs
   fits = omega arith

@@ -43,7 +43,7 @@ abbrev pub used : List ℕ → ℕ → ℕ
 used image zero = 0
 used image (suc i) = cond (free (slot image i)) (used image i) (suc i)
 
--- the slots after the last one not free
+-- how many slots stand behind the last used one
 abbrev pub writes-left : List ℕ → ℕ
 writes-left image = slots image - used image (slots image)
 

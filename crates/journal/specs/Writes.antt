@@ -20,7 +20,7 @@ header kind s n = kind ∷ (s ∷ (n ∷ (0 ∷ [])))
 abbrev pub entry : ℕ → ℕ → List ℕ → List ℕ
 entry kind s b = header kind s (length b) ++ b
 
--- the image with bytes written into the first slot after the last one not free
+-- the image with bytes written into the slot behind the last used one
 abbrev pub appended : List ℕ → List ℕ → List ℕ
 appended image w = over-from (64 * used image (slots image)) w image
 

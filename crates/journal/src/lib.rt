@@ -1,5 +1,5 @@
 // Flash journal: slots over the caller's memory, of which each write spends one.
-ghost use mathlib.Core.Path.{_≡_};
+ghost use mathlib.Core.Path.{_≡_, refl};
 ghost use denote.Ref.{now as at, name};
 ghost use Rattle.memory.specs.Memory.{keep-answer, keep-after, erase-answer, erase-after};
 ghost use Rattle.journal.specs.Limits.{journal-limits};
@@ -45,6 +45,8 @@ pub impl<'a> SettingsMemory for Journal<'a> as JournalMemory {
     ghost meaning = { λ j. journal-meaning (at (j .image)) };
 
     ghost limits = { λ j. journal-limits (at (j .image)) };
+
+    ghost fixed = { λ j k. refl };
 
     fn keep(&mut self, section: u8, bytes: &[u8]) -> Result<(), Refusal>
         ensures answer { λ r. ⌜ r ≡ keep-answer (journal-meaning (now (now (self .entry) .image))) section (now (bytes .entry)) ⌝ }

@@ -170,7 +170,7 @@ fn write_slot(image: &mut [u8], i: usize, kind: u8, section: u8, bytes: &[u8])
     image[start + 4..start + 4 + n].copy_from_slice(bytes);
 }
 
-// Writes an entry into the first slot after the last one not free.
+// Writes an entry into the slot behind the last used one.
 fn append(image: &mut [u8], kind: u8, section: u8, bytes: &[u8]) -> Result<(), Refusal>
     requires { ⌜ length (now bytes) ≤ 56 ⌝ }
     ensures answer { λ r. ⌜ r ≡ refuse (ltb (writes-left (now (image .entry))) 1) NoWritesLeft (Ok tt) ⌝ }

@@ -12,7 +12,7 @@ use listing::listing;
 use problem::Problem;
 use problem::ProblemDisplay;
 use problem::ProblemFromIo;
-use problem::ProblemFromUnlisted;
+use problem::ProblemFromListingError;
 use std::alloc::Global;
 use std::env;
 use std::fs;

@@ -1,6 +1,6 @@
 // Why the program prints no image.
-use listing::Unlisted;
-use listing::UnlistedDebug;
+use listing::ListingError;
+use listing::ListingErrorDebug;
 use std::fmt;
 use std::io;
 
@@ -8,7 +8,7 @@ use std::io;
 pub enum Problem {
     Usage,
     BatterySize(usize),
-    Unlisted(Unlisted),
+    ListingError(ListingError),
     Unread(io::Error),
 }
 
@@ -23,8 +23,11 @@ pub impl fmt::Display for Problem as ProblemDisplay {
                 f,
                 "a battery image has 320 bytes, and this one has {size}"
             ),
-            Problem::Unlisted(Unlisted::NoMemory) => write!(f, "there is not enough memory"),
-            Problem::Unlisted(Unlisted::Refused(refusal)) => {
+            Problem::ListingError(ListingError::NoMemory) => write!(
+                f,
+                "there is not enough memory"
+            ),
+            Problem::ListingError(ListingError::Refused(refusal)) => {
                 let number = refusal.number();
                 write!(f, "the memory refuses with {number}")
             }
@@ -39,8 +42,8 @@ pub impl From<io::Error> for Problem as ProblemFromIo {
     }
 }
 
-pub impl From<Unlisted> for Problem as ProblemFromUnlisted {
-    fn from(unlisted: Unlisted) -> Problem {
-        Problem::Unlisted(unlisted)
+pub impl From<ListingError> for Problem as ProblemFromListingError {
+    fn from(unlisted: ListingError) -> Problem {
+        Problem::ListingError(unlisted)
     }
 }

@@ -1,11 +1,13 @@
 // Lists the frames and sentences in a capture of the line, from standard input.
-ghost use Prim.Native.Nat.{_≤_};
-ghost use lib.ListN.{length, take};
+mod held;
+
+ghost use Prim.Native.Nat.{_-_, _≤_};
+ghost use lib.ListN.{length, drop};
+ghost use lib.Seq.{paste};
 ghost use mathlib.Core.Path.{_≡_};
-ghost use Rattle.wire.specs.Reading.{reading};
-ghost use Rattle.wire.specs.declared.reading.Ending.the-variants.{More};
 ghost use Rattle.std.specs.Vec.{made};
-ghost use Rattle.listen.specs.Listing.{Lists};
+ghost use Rattle.listen.specs.Listing.{Lists, Takes};
+use held::Held;
 use names::message_name;
 use std::env;
 use std::error::AnyError;
@@ -109,24 +111,23 @@ fn list(rt: &LibcRuntime, bytes: &[u8], ending: Ending, start: u64) -> io::Resul
     }
 }
 
-// What is held of a capture: the unread bytes at the front of the buffer, the place of the first, and how many bytes before were good.
-#[derive(Clone, Copy)]
-struct Held {
-    unread: usize,
-    start: u64,
-    good: u64,
-    ghost few: { unread ≤ 81 },
+// Moves the bytes between two places to the front.
+fn move_to_front(bytes: &mut [u8], from: usize, to: usize)
+    requires { ⌜ from ≤ to ⌝ ∗ ⌜ to ≤ length (now bytes) ⌝ }
+    ensures { λ _. ⌜ now (bytes .exit) ≡ paste (now (bytes .entry)) 0 (drop from (now (bytes .entry))) (to - from) ⌝ }
+{
+    bytes.copy_within(from..to, 0);
 }
 
 // Lists the bytes up to `end` and moves those left unread to the front.
 fn take_in(rt: &LibcRuntime, bytes: &mut [u8], end: usize, held: Held) -> io::Result<Held>
     requires { ⌜ end ≤ length (now bytes) ⌝ }
-    ensures { λ r. ⌜ made r (λ h. take (h .unread) (now (bytes .exit)) ≡ reading More (take end (now (bytes .entry))) 0 .unread) ⌝ }
+    ensures { λ r. ⌜ made r (Takes (now (bytes .entry)) (now (bytes .exit)) end held) ⌝ }
 {
     let listed = list(rt, &bytes[0..end], Ending::More, held.start)?;
     let rest = listed.rest;
     let unread = end - rest;
-    bytes.copy_within(rest..end, 0);
+    move_to_front(bytes, rest, end);
     let start = held.start.saturating_add(rest as u64);
     let good = held.good.saturating_add(listed.good as u64);
     Ok(Held {

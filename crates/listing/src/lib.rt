@@ -18,20 +18,20 @@ use std::alloc::Global;
 
 // Why there is no listing.
 #[derive(Debug, Drop)]
-pub enum Unlisted {
+pub enum ListingError {
     NoMemory,
     Refused(Refusal),
 }
 
-pub impl From<AllocError> for Unlisted as UnlistedFromAlloc {
-    fn from(_error: AllocError) -> Unlisted {
-        Unlisted::NoMemory
+pub impl From<AllocError> for ListingError as ListingErrorFromAlloc {
+    fn from(_error: AllocError) -> ListingError {
+        ListingError::NoMemory
     }
 }
 
-pub impl From<Refusal> for Unlisted as UnlistedFromRefusal {
-    fn from(refusal: Refusal) -> Unlisted {
-        Unlisted::Refused(refusal)
+pub impl From<Refusal> for ListingError as ListingErrorFromRefusal {
+    fn from(refusal: Refusal) -> ListingError {
+        ListingError::Refused(refusal)
     }
 }
 
@@ -141,7 +141,7 @@ fn held(heap: Global, section: Section, string: Option<&[u8]>) -> Result<String,
 }
 
 // A line for each section, and one for the writes left and the price.
-pub fn listing<M: SettingsMemory>(heap: Global, memory: &M) -> Result<String, Unlisted> {
+pub fn listing<M: SettingsMemory>(heap: Global, memory: &M) -> Result<String, ListingError> {
     let mut text = String::new(heap);
     for section in Section::ALL {
         let mut buffer = [0; 56];

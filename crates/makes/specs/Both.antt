@@ -10,7 +10,7 @@ use Rattle.memory.specs.declared.Refusal.the-variants.{NoWritesLeft}
 use Rattle.battery.specs.Places.{battery-string}
 
 -- the battery keeps it and the journal refuses it; image is the battery's afterwards, xs and ys are the journal's bytes
-pub record Apart (image xs ys : List ℕ) (s : ℕ) (b : List ℕ) (by-battery by-journal : Result (Unit {0}) Refusal) : Type 0 where
+pub record Full-journal (image xs ys : List ℕ) (s : ℕ) (b : List ℕ) (by-battery by-journal : Result (Unit {0}) Refusal) : Type 0 where
   pub done : by-battery ≡ Ok tt
   pub kept : battery-string image s ≡ Some b
   pub refused : by-journal ≡ Err NoWritesLeft

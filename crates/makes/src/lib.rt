@@ -2,10 +2,10 @@
 ghost use mathlib.Core.Path.{_≡_};
 ghost use mathlib.Core.Bool.{true};
 ghost use Rattle.memory.specs.Memory.{known, keepable, keep-answer, keep-after};
-ghost use Rattle.battery.specs.Places.{battery-meaning};
+ghost use Rattle.battery.specs.Places.{battery-meaning, keep-image as battery-after};
 ghost use Rattle.journal.specs.Slots.{writes-left};
 ghost use Rattle.journal.specs.Writes.{Keeps, Erases};
-ghost use Rattle.makes.specs.Both.{Apart};
+ghost use Rattle.makes.specs.Both.{Full-journal};
 use battery::Battery;
 use battery::BatteryMemory;
 use journal::Journal;
@@ -38,8 +38,9 @@ fn offer(
     bytes: &[u8],
 ) -> (Result<(), Refusal>, Result<(), Refusal>)
     ensures answer { λ r. ⌜ r .0 ≡ keep-answer (battery-meaning (now (battery .entry) .image)) section (now (bytes .entry)) ⌝ }
-    ensures after { λ r. ⌜ battery-meaning (now (battery .exit) .image) ≡ keep-after (battery-meaning (now (battery .entry) .image)) section (now (bytes .entry)) ⌝ }
+    ensures battery { λ r. ⌜ now (battery .exit) .image ≡ battery-after (now (battery .entry) .image) section (now (bytes .entry)) ⌝ }
     ensures journal { λ r. ⌜ Keeps (now (image .entry)) (now (image .exit)) section (now (bytes .entry)) (r .1) ⌝ }
+    ensures after { λ r. ⌜ battery-meaning (now (battery .exit) .image) ≡ keep-after (battery-meaning (now (battery .entry) .image)) section (now (bytes .entry)) ⌝ }
 {
     let by_battery = battery.keep(section, bytes);
     let by_journal = keep_in(image, section, bytes);
@@ -53,7 +54,10 @@ pub fn keep_both(
     section: u8,
     bytes: &[u8],
 ) -> (Result<(), Refusal>, Result<(), Refusal>)
-    ensures { λ r. ⌜ (keepable section (now (bytes .entry)) ≡ true → writes-left (now (image .entry)) ≡ 0 → Apart (now (battery .exit) .image) (now (image .entry)) (now (image .exit)) section (now (bytes .entry)) (r .0) (r .1)) ⌝ }
+    ensures answer { λ r. ⌜ r .0 ≡ keep-answer (battery-meaning (now (battery .entry) .image)) section (now (bytes .entry)) ⌝ }
+    ensures battery { λ r. ⌜ now (battery .exit) .image ≡ battery-after (now (battery .entry) .image) section (now (bytes .entry)) ⌝ }
+    ensures journal { λ r. ⌜ Keeps (now (image .entry)) (now (image .exit)) section (now (bytes .entry)) (r .1) ⌝ }
+    ensures full { λ r. ⌜ (keepable section (now (bytes .entry)) ≡ true → writes-left (now (image .entry)) ≡ 0 → Full-journal (now (battery .exit) .image) (now (image .entry)) (now (image .exit)) section (now (bytes .entry)) (r .0) (r .1)) ⌝ }
 {
     offer(battery, image, section, bytes)
 }
@@ -70,7 +74,7 @@ mod tests {
     use super::*;
     use keeping::keep_section;
     use keeping::load_section;
-    use listing::UnlistedDebug;
+    use listing::ListingErrorDebug;
     use memory::RefusalDebug;
     use memory::RefusalPartialEq;
     use settings::Interval;

@@ -37,6 +37,9 @@ pub trait SettingsMemory {
 
     ghost limits: { (x : Self) → Limits (meaning x) };
 
+    // One price for the make.
+    ghost fixed: { (x y : Self) → meaning x .price ≡ meaning y .price };
+
     fn keep(&mut self, section: u8, bytes: &[u8]) -> Result<(), Refusal>
         ensures answer { λ r. ⌜ r ≡ keep-answer (meaning (now (self .entry))) section (now (bytes .entry)) ⌝ }
         ensures after { λ _. ⌜ meaning (now (self .exit)) ≡ keep-after (meaning (now (self .entry))) section (now (bytes .entry)) ⌝ };
@@ -45,7 +48,7 @@ pub trait SettingsMemory {
         ensures answer { λ r. ⌜ r ≡ erase-answer (meaning (now (self .entry))) section ⌝ }
         ensures after { λ _. ⌜ meaning (now (self .exit)) ≡ erase-after (meaning (now (self .entry))) section ⌝ };
 
-    // Copies the string to the start of `out` and gives its length, or says that there is none.
+    // The length of the string, which then stands at the front of `out`, or none.
     fn read(&self, section: u8, out: &mut [u8]) -> Result<Option<usize>, Refusal>
         ensures answer { λ r. ⌜ r ≡ read-answer (meaning (now (self .entry))) section (length (now (out .entry))) ⌝ }
         ensures copied { λ _. ⌜ now (out .exit) ≡ read-out (meaning (now (self .entry))) section (now (out .entry)) ⌝ };

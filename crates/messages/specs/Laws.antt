@@ -17,7 +17,7 @@ use Rattle.fix.specs.declared.Time.{Time}
 use Rattle.fix.specs.declared.checked.CheckedFix.{CheckedFix}
 use Rattle.fix.specs.Checks.{dateOf, timeOf}
 
--- what is written of a body is a good sentence of at most 82 bytes, and the reader hands the body back
+-- a body makes a good sentence that is not too long, and reading it gives the body back
 pub record Good-sentence (body : List ℕ) : Type 0 where
   pub lawful : lawfulBody body ≡ true
   pub size : length (sentence body) ≤ 82

@@ -1,4 +1,4 @@
--- The protocol's names of its frames, by class and id; those whose payload is always above 64 bytes are left out.
+-- The protocol's names of its frames, by class and id.
 use mathlib.Core.Bool.{cond}
 use mathlib.Core.List.{List, [], _∷_}
 use Prim.Native.Nat.{ℕ}
@@ -13,7 +13,7 @@ beside [] n otherwise = otherwise
 beside (entry ∷ more) n otherwise = cond (eqb n (entry .0)) (entry .1) (beside more n otherwise)
 
 abbrev pub navName : ℕ → Option (List ℕ)
-navName id = beside ((0x01, Some (codes "NAV-DOP")) ∷ (0x06, Some (codes "NAV-IMUATT")) ∷ (0x10, Some (codes "NAV-TIMEUTC")) ∷ (0x11, Some (codes "NAV-CLOCK")) ∷ (0x20, Some (codes "NAV-GPSINFO")) ∷ (0x21, Some (codes "NAV-BDSINFO")) ∷ (0x22, Some (codes "NAV-GLNINFO")) ∷ []) id None
+navName id = beside ((0x00, Some (codes "NAV-STATUS")) ∷ (0x01, Some (codes "NAV-DOP")) ∷ (0x02, Some (codes "NAV-SOL")) ∷ (0x03, Some (codes "NAV-PV")) ∷ (0x06, Some (codes "NAV-IMUATT")) ∷ (0x10, Some (codes "NAV-TIMEUTC")) ∷ (0x11, Some (codes "NAV-CLOCK")) ∷ (0x20, Some (codes "NAV-GPSINFO")) ∷ (0x21, Some (codes "NAV-BDSINFO")) ∷ (0x22, Some (codes "NAV-GLNINFO")) ∷ []) id None
 
 abbrev pub timName : ℕ → Option (List ℕ)
 timName id = beside ((0x00, Some (codes "TIM-TP")) ∷ []) id None
@@ -28,7 +28,7 @@ abbrev pub cfgName : ℕ → Option (List ℕ)
 cfgName id = beside ((0x00, Some (codes "CFG-PRT")) ∷ (0x01, Some (codes "CFG-MSG")) ∷ (0x02, Some (codes "CFG-RST")) ∷ (0x03, Some (codes "CFG-TP")) ∷ (0x04, Some (codes "CFG-RATE")) ∷ (0x05, Some (codes "CFG-CFG")) ∷ (0x06, Some (codes "CFG-TMODE")) ∷ (0x07, Some (codes "CFG-NAVX")) ∷ (0x08, Some (codes "CFG-GROUP")) ∷ (0x10, Some (codes "CFG-INS")) ∷ []) id None
 
 abbrev pub msgName : ℕ → Option (List ℕ)
-msgName id = beside ((0x00, Some (codes "MSG-BDSUTC")) ∷ (0x01, Some (codes "MSG-BDSION")) ∷ (0x05, Some (codes "MSG-GPSUTC")) ∷ (0x06, Some (codes "MSG-GPSION")) ∷ []) id None
+msgName id = beside ((0x00, Some (codes "MSG-BDSUTC")) ∷ (0x01, Some (codes "MSG-BDSION")) ∷ (0x02, Some (codes "MSG-BDSEPH")) ∷ (0x05, Some (codes "MSG-GPSUTC")) ∷ (0x06, Some (codes "MSG-GPSION")) ∷ (0x07, Some (codes "MSG-GPSEPH")) ∷ (0x08, Some (codes "MSG-GLNEPH")) ∷ []) id None
 
 abbrev pub monName : ℕ → Option (List ℕ)
 monName id = beside ((0x04, Some (codes "MON-VER")) ∷ (0x09, Some (codes "MON-HW")) ∷ []) id None

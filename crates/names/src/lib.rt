@@ -25,7 +25,10 @@ fn nav_name(id: u8) -> Option<&'static str>
     ensures { λ r. ⌜ mapped pointed r ≡ navName id ⌝ }
 {
     match id {
+        0x00 => Some("NAV-STATUS"),
         0x01 => Some("NAV-DOP"),
+        0x02 => Some("NAV-SOL"),
+        0x03 => Some("NAV-PV"),
         0x06 => Some("NAV-IMUATT"),
         0x10 => Some("NAV-TIMEUTC"),
         0x11 => Some("NAV-CLOCK"),
@@ -90,8 +93,11 @@ fn msg_name(id: u8) -> Option<&'static str>
     match id {
         0x00 => Some("MSG-BDSUTC"),
         0x01 => Some("MSG-BDSION"),
+        0x02 => Some("MSG-BDSEPH"),
         0x05 => Some("MSG-GPSUTC"),
         0x06 => Some("MSG-GPSION"),
+        0x07 => Some("MSG-GPSEPH"),
+        0x08 => Some("MSG-GLNEPH"),
         _ => None,
     }
 }

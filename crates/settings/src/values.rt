@@ -73,7 +73,7 @@ pub struct Messages {
     pub entries: [Entry; 5],
 }
 
-// The ten settings: baud, five rates, interval, systems, pulse and group.
+// All settings together; the five rates stand in the table of messages.
 #[derive(Clone, Copy)]
 pub struct Settings {
     pub baud: Baud,

@@ -39,7 +39,7 @@ module _ (e : Ending) (w : List ℕ) where
           record { ahead = ahead; none = none; here = good-begins w at x (ap tryOf (sym is) ∙ by-good e (b ∷ t) x h) },
           again (size x - 1) (at + size x) (omega arith) (omega arith) (λ a y low high begins. absurd (omega arith)) (omega arith),
         )
-    finds-at unfinished h size-is = λ a x low high begins. none a x low (omega arith) begins
+    finds-at unfinished h size-is = (omega arith, λ a x low high begins. none a x low (omega arith) begins)
     finds-at failed h size-is =
         again 0 from (omega arith) (omega arith)
         (λ a x low high begins.
@@ -49,7 +49,7 @@ module _ (e : Ending) (w : List ℕ) where
         (omega arith)
 
   pub finds : (t : List ℕ) (at k from until : ℕ) → t ≡ drop at w → k ≤ length t → from ≤ at + k → None-begins w from (at + k) → until + length (unreadFrom e k t) ≡ at + length t → Finds w from until (foundFrom e at k t)
-  finds [] at k from until is small ahead none size-is = λ a x low high begins. none a x low (omega arith) begins
+  finds [] at k from until is small ahead none size-is = (omega arith, λ a x low high begins. none a x low (omega arith) begins)
   finds (b ∷ t) at (suc k) from until is small ahead none size-is =
       finds t (at + 1) k from until (next w t b at is) (omega arith) (omega arith) (λ a x low high begins. none a x low (omega arith) begins) (omega arith)
   finds (b ∷ t) at zero from until is small ahead none size-is =

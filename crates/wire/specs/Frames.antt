@@ -30,6 +30,6 @@ header class id len = lead ++ (bytes2 len ++ (class ∷ id ∷ []))
 abbrev pub frame : ℕ → ℕ → List ℕ → List ℕ
 frame class id payload = header class id (length payload) ++ (payload ++ bytes4 (frameSum class id payload))
 
--- a payload's length is a multiple of 4, at most 64
+-- lawful payload lengths: 0, 4, 8 and so on up to 64
 abbrev pub lawfulLength : ℕ → Bool
 lawfulLength n = eqb (n % 4) 0 && leb n 64

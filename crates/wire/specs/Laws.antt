@@ -28,9 +28,9 @@ pub record First-good (bytes : List ℕ) (from : ℕ) (p : Placed) : Type 0 wher
   pub none : None-begins bytes from (p .at)
   pub here : Begins bytes (p .at) (p .item)
 
--- what is found from one place to another: the first good item, then the same again from its end, and then none
+-- what is found between two places: the first good item, what is found behind it, and in the end no more
 abbrev pub Finds : List ℕ → ℕ → ℕ → List Placed → Type 0
-Finds bytes from until [] = None-begins bytes from until
+Finds bytes from until [] = (from ≤ until) × None-begins bytes from until
 Finds bytes from until (p ∷ more) = First-good bytes from p × Finds bytes (p .at + size (p .item)) until more
 
 -- an unfinished try stands at a place
@@ -48,22 +48,22 @@ None-waits-outside bytes from until (p ∷ more) = None-waits bytes from (p .at)
 
 -- reading, with a pause at the end and without
 pub record Read (bytes : List ℕ) : Type 0 where
-  -- with a pause: the first good item, then the same again from its end, and between them none begins
+  -- after a pause all bytes are gone through
   pub paused : Finds bytes 0 (length bytes) (reading Pause bytes 0 .found)
   pub all-read : reading Pause bytes 0 .unread ≡ []
-  -- without: the same up to the place of the unread rest, which begins at the first unfinished try outside the found items
+  -- with more to come, only those before the rest; there the first try waits that is part of no found item
   pub rest : ℕ
   pub found : Finds bytes 0 rest (reading More bytes 0 .found)
   pub first : None-waits-outside bytes 0 rest (reading More bytes 0 .found)
   pub waits : (rest ≡ length bytes) ⊎ Waits bytes rest
   pub unread : reading More bytes 0 .unread ≡ drop rest bytes
 
--- what is written reads back the same, with any bytes behind it
+-- an item is found first in its written form, whatever stands behind, and reading goes on at its end
 pub record Back (x : Item) (behind : List ℕ) (ending : Ending) : Type 0 where
   pub found : reading ending (form x ++ behind) 0 .found ≡ record { at = 0; item = x } ∷ reading ending (form x ++ behind) (length (form x)) .found
   pub unread : reading ending (form x ++ behind) 0 .unread ≡ reading ending (form x ++ behind) (length (form x)) .unread
 
--- reading in pieces, each joined behind what the one before left unread, which begins at a place
+-- reading pieces as they come: the rest, whose first byte stands at a place, and a piece are read as one
 abbrev pub foundInPieces : List ℕ → ℕ → List (List ℕ) → List Placed
 foundInPieces rest at [] = []
 foundInPieces rest at (piece ∷ more) =
@@ -76,7 +76,7 @@ unreadInPieces rest (piece ∷ more) = unreadInPieces (unreadFrom More 0 (rest +
 abbrev pub together : List (List ℕ) → List ℕ
 together pieces = joined (λ piece. piece) pieces
 
--- however bytes are cut, the same is found at the same places, and the same is left
+-- pieces give what their bytes give as a whole: the items, their places and the rest
 pub record Uncut (pieces : List (List ℕ)) : Type 0 where
   pub found : foundInPieces [] 0 pieces ≡ reading More (together pieces) 0 .found
   pub unread : unreadInPieces [] pieces ≡ reading More (together pieces) 0 .unread
@@ -90,7 +90,7 @@ pub record Line : Type 0 where
   pub sizes : (x : Item) → length (form x) ≡ size x
   pub back : (x : Item) (behind : List ℕ) (ending : Ending) → lawfulItem x ≡ true → Back x behind ending
   pub uncut : (pieces : List (List ℕ)) → Uncut pieces
-  -- noise, at none of whose bytes a good item begins, changes nothing that a pause has found but the places
+  -- where no good item begins in the noise, it only moves what is found behind it
   pub noise : (noise bytes : List ℕ) → None-begins (noise ++ bytes) 0 (length noise) → reading Pause (noise ++ bytes) 0 .found ≡ map (moved (length noise)) (reading Pause bytes 0 .found)
   -- little is left unread
   pub few : (ending : Ending) (bytes : List ℕ) (at : ℕ) → length (reading ending bytes at .unread) ≤ 81

@@ -1,4 +1,4 @@
--- What reading a run of bytes gives: the good items in order with their places, and the unread rest.
+-- Reading some bytes: which items are found, each at its place, and what is left for later.
 use mathlib.Core.List.{List, [], _∷_}
 use Prim.Native.Nat.{ℕ, zero, suc, _+_, _-_}
 use lib.ListN.{drop}
@@ -7,7 +7,7 @@ use Rattle.wire.specs.declared.reading.Ending.the-variants.{More, Pause}
 use Rattle.wire.specs.Items.{Item, size}
 use Rattle.wire.specs.Tries.{Try, good, unfinished, failed, ended, tryOf}
 
--- more bytes may come, or a pause makes an unfinished try fail
+-- whether more bytes may come; after a pause, what is unfinished has failed
 abbrev pub endedBy : Ending → Try → Try
 endedBy More t = t
 endedBy Pause t = ended t

@@ -10,7 +10,7 @@ use Rattle.wire.specs.Frames.{frameSum, lawfulLength}
 use Rattle.wire.specs.Sentences.{isBody, checksum, hexDigit}
 use Rattle.wire.specs.Items.{Item, frameItem, sentenceItem}
 
--- a good item, a try that no rule judged so far breaks, or one that a rule breaks
+-- a good item; bytes that ran out before a rule was broken; a broken rule
 pub data Try : Type 0 where
   good : Item → Try
   unfinished : Try

@@ -1,9 +1,12 @@
 // The laws of the line as a whole.
+ghost use mathlib.Core.Bool.{true};
+ghost use mathlib.Core.Path.{_≡_};
 ghost use Rattle.wire.specs.Laws.{Line};
 
-// What is true of reading and writing for all bytes: see `Line`.
+// True, by what `Line` says of reading and writing for all bytes.
 pub fn line_stands() -> bool
-    ensures { λ _. ⌜ Line ⌝ }
+    ensures laws { λ _. ⌜ Line ⌝ }
+    ensures said { λ r. ⌜ r ≡ true ⌝ }
 {
     true
 }

@@ -1,4 +1,4 @@
-// The line: frames and sentences, read and written.
+// What stands on the serial line: writing it and reading it.
 mod frame;
 mod item;
 mod laws;

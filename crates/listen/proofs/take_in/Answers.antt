@@ -1,8 +1,17 @@
+use mathlib.Core.Path.{_∙_}
 use native.Mathlib.Omega.{arith}
-use Rattle.listen.proofs.Moves.{front}
+use Rattle.listen.proofs.Moves.{front, onward, goods}
 use Rattle.listen.proofs.take_in.Needs as need
 
 pub returns : need.returns
 returns c =
     let listed = c .in-Continue-listed .ensures tt in
-    front (c .args .bytes .now) (c .copy-within .last .self) (c .args .end) (c .in-Continue-listed .listed .rest) (c .pre) (omega (arith, listed .within)) (c .copy-within .ensures .after) (listed .unread)
+    let xs = c .args .bytes .now in
+    let end = c .args .end in
+    let rest = c .in-Continue-listed .listed .rest in
+    let held = c .args .held in
+    record {
+      unread = front xs (c .move-to-front .last .bytes) end rest (c .pre) (omega (arith, listed .within)) (c .move-to-front .ensures) (listed .unread);
+      start = c .saturating-add-start .ensures ∙ onward (held .start) rest end (omega (arith, listed .within));
+      good = c .saturating-add-good .ensures ∙ goods xs (held .good) (c .in-Continue-listed .listed .good) end (listed .good);
+    }

@@ -1,18 +1,13 @@
-use mathlib.Core.Path.{_≡_, refl, sym, ap, _∙_}
-use mathlib.Core.Bool.{true}
+use mathlib.Core.Path.{_≡_, refl, ap, _∙_}
 use mathlib.Core.Logic.{_⊎_, inl, inr, ⊎-elim}
-use mathlib.Core.List.{List, [], _∷_, _++_}
+use mathlib.Core.List.{List, []}
 use Prim.Native.Nat.{ℕ, _+_, _-_, _≤_, _<_}
 use native.Mathlib.Omega.{arith}
-use lib.ListN.{length, drop, length-drop, length-append}
-use Rattle.wire.specs.declared.reading.Ending.{Ending}
+use lib.ListN.{length, drop, length-drop}
 use Rattle.wire.specs.declared.reading.Ending.the-variants.{More, Pause}
-use Rattle.wire.specs.Items.{Item, form, size, lawfulItem}
-use Rattle.wire.specs.Tries.{good}
-use Rattle.wire.specs.Reading.{tryBy, foundFrom, unreadFrom, reading}
-use Rattle.wire.specs.Laws.{Begins, Read, Waits, Back}
-use Rattle.wire.proofs.Judgement.{sizes, begins-good}
-use Rattle.wire.proofs.Steps.{onward-is, some-size}
+use Rattle.wire.specs.Reading.{unreadFrom}
+use Rattle.wire.specs.Laws.{Read, Waits, Line}
+use Rattle.wire.proofs.Judgement.{sizes}
 use Rattle.wire.proofs.Finding.{finds, suffix, few-unread, none-unread, outside, waiting}
 use Rattle.wire.proofs.Cutting.{found-pieces, unread-pieces, at-start, quiet-moved}
 use Rattle.wire.proofs.Backs.{back}
@@ -36,8 +31,8 @@ read w =
       unread = tail .1;
     }
 
-pub returns : need.returns
-returns c = record {
+line : Line
+line = record {
   reads = read;
   sizes = sizes;
   back = back;
@@ -45,3 +40,6 @@ returns c = record {
   noise = quiet-moved;
   few = λ ending bytes at. few-unread ending bytes 0 (drop at bytes);
 }
+
+pub returns : need.returns
+returns c = record { laws = line; said = refl }
