@@ -7,7 +7,6 @@ ghost use Rattle.std.specs.Options.{mapped};
 ghost use Rattle.std.specs.Results.{isOk};
 ghost use Rattle.std.specs.declared.result.Result.the-variants.{Ok};
 ghost use Rattle.memory.specs.Memory.{known, keepable, refuse, with-string, keep-answer, keep-after, erase-answer, erase-after};
-ghost use Rattle.memory.specs.declared.Refusal.the-variants.{UnknownSection};
 ghost use Rattle.battery.specs.Limits.{battery-limits};
 ghost use Rattle.battery.specs.Places.{start, string-in, filled, battery-meaning, keep-image, erase-image};
 use memory::LONGEST;
@@ -44,7 +43,7 @@ impl Battery {
 
 // Where the place of a section starts, if there is such a section.
 fn place(section: u8) -> Result<usize, Refusal>
-    ensures { λ r. ⌜ r ≡ refuse (not (known section)) UnknownSection (Ok (start section)) ⌝ }
+    ensures { λ r. ⌜ r ≡ refuse (not (known section)) 7 (Ok (start section)) ⌝ }
 {
     match section {
         0 | 1 => Ok(PLACE * section as usize),

@@ -37,7 +37,7 @@ over-over a h b xs l =
 
 -- an append is either refused and leaves everything, or done
 module _ (xs ys w : List ℕ) (r : Result (Unit {0}) Refusal)
-    (answer : r ≡ refuse (ltb (writes-left xs) 1) NoWritesLeft (Ok tt)) (after : ys ≡ cond (isOk r) (appended xs w) xs) where
+    (answer : r ≡ refuse (ltb (writes-left xs) 1) 9 (Ok tt)) (after : ys ≡ cond (isOk r) (appended xs w) xs) where
   by-room : (P : Result (Unit {0}) Refusal → List ℕ → Type 0) → (ltb (writes-left xs) 1 ≡ true → P (Err NoWritesLeft) xs) → (used xs (slots xs) < slots xs → P (Ok tt) (appended xs w)) → P r ys
   by-room P full room =
       let Q : Bool → Type 0 = λ t. P (cond t (Err NoWritesLeft) (Ok tt)) (cond (isOk (cond t (Err NoWritesLeft) (Ok tt))) (appended xs w) xs) in
@@ -47,7 +47,7 @@ module _ (xs ys w : List ℕ) (r : Result (Unit {0}) Refusal)
       subst (λ z. P r z) (sym after) at-r
 
 module _ (xs ys : List ℕ) (s : ℕ) (r : Result (Unit {0}) Refusal) (k : known s ≡ true)
-    (answer : r ≡ refuse (ltb (writes-left xs) 1) NoWritesLeft (Ok tt)) where
+    (answer : r ≡ refuse (ltb (writes-left xs) 1) 9 (Ok tt)) where
   none-left : ltb (writes-left xs) 1 ≡ true → ltb 0 (writes-left xs) ≡ false
   none-left t = let l = ltb-true (writes-left xs) 1 t in le-ltb 0 (writes-left xs) (omega arith)
 

@@ -9,7 +9,6 @@ ghost use Rattle.std.specs.Results.{isOk};
 ghost use Rattle.std.specs.declared.result.Result.the-variants.{Ok};
 ghost use Rattle.memory.specs.Bytes.{over-from};
 ghost use Rattle.memory.specs.Memory.{known, keepable, refuse, with-string, read-answer, read-out};
-ghost use Rattle.memory.specs.declared.Refusal.the-variants.{NoWritesLeft};
 ghost use Rattle.journal.specs.Latest.{Found};
 ghost use Rattle.journal.specs.Writes.{header, entry, appended, Keeps, Erases};
 ghost use Rattle.journal.specs.Slots.{slots, slot, free, names, well-formed, content, used, latest, writes-left, journal-meaning};
@@ -173,7 +172,7 @@ fn write_slot(image: &mut [u8], i: usize, kind: u8, section: u8, bytes: &[u8])
 // Writes an entry into the slot behind the last used one.
 fn append(image: &mut [u8], kind: u8, section: u8, bytes: &[u8]) -> Result<(), Refusal>
     requires { ⌜ length (now bytes) ≤ 56 ⌝ }
-    ensures answer { λ r. ⌜ r ≡ refuse (ltb (writes-left (now (image .entry))) 1) NoWritesLeft (Ok tt) ⌝ }
+    ensures answer { λ r. ⌜ r ≡ refuse (ltb (writes-left (now (image .entry))) 1) 9 (Ok tt) ⌝ }
     ensures after { λ r. ⌜ now (image .exit) ≡ cond (isOk r) (appended (now (image .entry)) (entry kind section (now (bytes .entry)))) (now (image .entry)) ⌝ }
     ensures fits { λ _. ⌜ length (now (bytes .entry)) ≤ 56 ⌝ }
 {

@@ -34,9 +34,13 @@ number StringTooLong = 8
 number NoWritesLeft = 9
 number BufferTooShort = 10
 
--- refused where the cause holds, else as the next cause says
-abbrev pub refuse : {A : Type 0} → Bool → Refusal → Result A Refusal → Result A Refusal
-refuse cause refusal next = cond cause (Err refusal) next
+-- the refusal of each number, 7 to 10
+abbrev pub refusal : ℕ → Refusal
+refusal n = cond (eqb n 7) UnknownSection (cond (eqb n 8) StringTooLong (cond (eqb n 9) NoWritesLeft BufferTooShort))
+
+-- refused by a number where its cause holds, else as the next cause says
+abbrev pub refuse : {A : Type 0} → Bool → ℕ → Result A Refusal → Result A Refusal
+refuse cause n next = cond cause (Err (refusal n)) next
 
 -- the named section alone changes, and the change is paid for
 abbrev pub changed : Meaning → ℕ → Option (List ℕ) → Meaning
@@ -49,7 +53,7 @@ keepable s b = known s && leb (length b) 56
 -- what keep answers
 abbrev pub keep-answer : Meaning → ℕ → List ℕ → Result (Unit {0}) Refusal
 keep-answer m s b =
-    refuse (not (known s)) UnknownSection (refuse (ltb 56 (length b)) StringTooLong (refuse (ltb (m .left) (m .price)) NoWritesLeft (Ok tt)))
+    refuse (not (known s)) 7 (refuse (ltb 56 (length b)) 8 (refuse (ltb (m .left) (m .price)) 9 (Ok tt)))
 
 -- what keep leaves
 abbrev pub keep-after : Meaning → ℕ → List ℕ → Meaning
@@ -57,7 +61,7 @@ keep-after m s b = cond (isOk (keep-answer m s b)) (changed m s (Some b)) m
 
 -- what erase answers
 abbrev pub erase-answer : Meaning → ℕ → Result (Unit {0}) Refusal
-erase-answer m s = refuse (not (known s)) UnknownSection (refuse (ltb (m .left) (m .price)) NoWritesLeft (Ok tt))
+erase-answer m s = refuse (not (known s)) 7 (refuse (ltb (m .left) (m .price)) 9 (Ok tt))
 
 -- what erase leaves
 abbrev pub erase-after : Meaning → ℕ → Meaning
@@ -65,7 +69,7 @@ erase-after m s = cond (isOk (erase-answer m s)) (changed m s None) m
 
 -- what read answers over a buffer of n bytes: the length of the string, or none
 abbrev pub read-answer : Meaning → ℕ → ℕ → Result (Option ℕ) Refusal
-read-answer m s n = refuse (not (known s)) UnknownSection (refuse (ltb n 56) BufferTooShort (Ok (mapped length (m .string s))))
+read-answer m s n = refuse (not (known s)) 7 (refuse (ltb n 56) 10 (Ok (mapped length (m .string s))))
 
 -- the buffer with the string, if there is one, over its start
 abbrev pub with-string : Option (List ℕ) → List ℕ → List ℕ
@@ -78,7 +82,7 @@ read-out m s out = cond (isOk (read-answer m s (length out))) (with-string (m .s
 
 -- the string of a section, for whoever has room for every string
 abbrev pub string-answer : Meaning → ℕ → Result (Option (List ℕ)) Refusal
-string-answer m s = refuse (not (known s)) UnknownSection (Ok (m .string s))
+string-answer m s = refuse (not (known s)) 7 (Ok (m .string s))
 
 -- an answer that lends the string, as the string itself
 abbrev pub lent : Result (Option (RefT (List ℕ))) Refusal → Result (Option (List ℕ)) Refusal

@@ -1,7 +1,7 @@
 // The settings memory: what every make of it answers and leaves.
 ghost use mathlib.Core.Path.{_≡_};
 ghost use lib.ListN.{length};
-ghost use Rattle.memory.specs.Memory.{Meaning, Limits, known, number, keep-answer, keep-after, erase-answer, erase-after, read-answer, read-out, string-answer, lent};
+ghost use Rattle.memory.specs.Memory.{Meaning, Limits, known, number, refusal, keep-answer, keep-after, erase-answer, erase-after, read-answer, read-out, string-answer, lent};
 
 // Why a memory refuses a call; a refused call changes nothing.
 #[derive(Clone, Copy, PartialEq, Eq, Debug)]
@@ -15,7 +15,8 @@ pub enum Refusal {
 impl Refusal {
     // The number under which the refusal is known on the bench.
     pub fn number(self) -> u8
-        ensures { λ r. ⌜ r ≡ number self ⌝ }
+        ensures number { λ r. ⌜ r ≡ number self ⌝ }
+        ensures back { λ r. ⌜ refusal r ≡ self ⌝ }
     {
         self as u8
     }
