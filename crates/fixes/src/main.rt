@@ -25,7 +25,7 @@ NAV-TIMEUTC in hex and field by field; or why the fix is refused.
 
 A fix is one line of seven words, or of thirteen if it has a position:
   date           year-month-day
-  time           hour:minute:second.ms, ms a number of at least three digits
+  time           hour:minute:second.ms, ms in three digits (more only without a leading zero)
   systems        1 to 7: the sum of 1 for GPS, 2 for BeiDou and 4 for GLONASS
   run time       in ms
   time accuracy  eight hex digits, in the order in which they are sent

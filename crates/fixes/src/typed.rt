@@ -48,7 +48,8 @@ impl Word {
     fn form(self) -> &'static str {
         match self {
             Word::Date => "year-month-day",
-            Word::Time => "hour:minute:second.ms with three digits of ms",
+            Word::Time =>
+                "hour:minute:second.ms with at least three digits of ms, no leading zero beyond three",
             Word::Systems => "a number from 1 to 7",
             Word::TimeAccuracy | Word::MsError => "eight hex digits",
             Word::Satellites => "a number from 0 to 255",
@@ -107,13 +108,13 @@ fn date(text: &str) -> Result<Date, Fault> {
     })
 }
 
-// Milliseconds have three digits at least, so that .5 is not taken for 5 ms.
+// Milliseconds have three digits, or more with no leading zero, so that neither .5 nor .0005 is taken for 5 ms.
 fn time(text: &str) -> Result<Time, Fault> {
     let wrong = Fault::Wrong(Word::Time);
     let (hour, rest) = text.split_once(':').ok_or(wrong)?;
     let (minute, rest) = rest.split_once(':').ok_or(wrong)?;
     let (second, ms) = rest.split_once('.').ok_or(wrong)?;
-    if ms.len() < 3 {
+    if ms.len() < 3 || ms.len() > 3 && ms.starts_with('0') {
         return Err(wrong);
     }
     Ok(Time {

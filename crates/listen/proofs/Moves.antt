@@ -19,8 +19,8 @@ front xs exit end rest room less after unread =
     ap (take n) after ∙ take-at (take n (drop rest xs)) (drop (0 + n) xs) n long ∙ between-is xs rest end ∙ (λ i. drop rest (take (sym z i) xs)) ∙ unread ∙ (λ i. unreadFrom More 0 (take (z i) xs))
 
 -- the counts go on by what was read
-pub onward : (start rest end : ℕ) → rest ≤ end → min (start + rest) (2 ^ 64 - 1) ≡ counted (start + (end - (end - rest)))
-onward start rest end less = let e : rest ≡ end - (end - rest) = omega arith in ap (λ n. counted (start + n)) e
+pub starts : (start rest end : ℕ) → rest ≤ end → min (start + rest) (2 ^ 64 - 1) ≡ counted (start + (end - (end - rest)))
+starts start rest end less = let e : rest ≡ end - (end - rest) = omega arith in ap (λ n. counted (start + n)) e
 
 pub goods : (xs : List ℕ) (before good end : ℕ) → good ≡ bytesOf (reading More (take (end - 0) xs) 0 .found) → min (before + good) (2 ^ 64 - 1) ≡ counted (before + bytesOf (reading More (take end xs) 0 .found))
 goods xs before good end is = let z : end - 0 ≡ end = omega arith in ap (λ n. counted (before + n)) (is ∙ ap (λ k. bytesOf (reading More (take k xs) 0 .found)) z)

@@ -1,11 +1,13 @@
 // What a settings memory holds, as lines to read.
 ghost use mathlib.Core.Path.{_≡_};
-ghost use lib.ListN.{getD};
+ghost use lib.ListN.{getD, replicate};
+ghost use mathlib.Core.Bool.{cond};
+ghost use Rattle.std.specs.declared.option.Option.the-variants.{Some, None};
 ghost use Rattle.std.specs.Options.{mapped};
 ghost use Rattle.listing.specs.Words.{section-word};
 ghost use Rattle.settings.specs.Names.{place};
-ghost use Rattle.settings.specs.Values.{values, factory};
-ghost use Rattle.settings.specs.Strings.{read-back};
+ghost use Rattle.settings.specs.Values.{values, counts, factory};
+ghost use Rattle.settings.specs.Strings.{is-kept, read-back};
 use memory::Refusal;
 use memory::RefusalDebug;
 use memory::SettingsMemory;
@@ -37,7 +39,8 @@ pub impl From<Refusal> for ListingError as ListingErrorFromRefusal {
 
 // The settings that a section's string names, where it is a kept value.
 pub fn named(section: Section, string: &[u8]) -> Option<Settings>
-    ensures { λ r. ⌜ mapped values r ≡ read-back factory section (now (string .entry)) ⌝ }
+    ensures values { λ r. ⌜ mapped values r ≡ read-back factory section (now (string .entry)) ⌝ }
+    ensures counts { λ r. ⌜ mapped counts r ≡ cond (is-kept section (now (string .entry))) (Some (replicate 5 0)) None ⌝ }
 {
     let mut settings = Settings::factory();
     if settings.take_string(section, string) {

@@ -6,20 +6,17 @@ use Prim.Native.Nat.{ℕ, _+_, _-_, _*_, _/_, _%_, _^_, _≤_, _<_}
 use native.Mathlib.Omega.{arith}
 use lib.Dec.{leb, ltb, eqb}
 use lib.ListN.{length, getD, take, drop, length-append, length-drop}
-use Rattle.std.proofs.shelf.Lists.{getD-append-left, getD-append-add, take-append-le, drop-append-le, take-append-drop, drop-drop, drop-more, length-take-le, take-at}
+use Rattle.std.proofs.shelf.Lists.{getD-append-add, take-append-le, drop-append-le, take-append-drop, drop-drop, drop-more, length-take-le, take-at}
 use Rattle.std.proofs.shelf.Tests.{le-leb, lt-ltb, eq-eqb, eqb-true, leb-true, and-from, and-parts}
 use Rattle.numbers.specs.Bytes.{bytes4}
 use Rattle.wire.specs.Frames.{frameSum, lawfulLength}
 use Rattle.wire.specs.Items.{Item, frameItem, sentenceItem, form, size, lawfulItem}
 use Rattle.wire.specs.Tries.{Try, good, unfinished, failed, judged, stand, lengthOf, payloadOf, sumStands, wholeFrame, frameFromSum, frameFromLength, frameTry}
-use Rattle.wire.proofs.Rules.{Stays, Fits, Few, judged-stays, judged-has}
+use Rattle.wire.proofs.Rules.{same-byte, Stays, Fits, Few, judged-stays, judged-has}
 
 module _ (bs more : List ℕ) where
-  read : (i : ℕ) → i < length bs → getD (bs ++ more) i 0 ≡ getD bs i 0
-  read i h = getD-append-left bs more 0 i h
-
   same-length : 3 < length bs → lengthOf (bs ++ more) ≡ lengthOf bs
-  same-length h = λ i. read 2 (omega arith) i + read 3 (omega arith) i * 2 ^ 8
+  same-length h = λ i. same-byte bs more 2 (omega arith) i + same-byte bs more 3 (omega arith) i * 2 ^ 8
 
   same-payload : lengthOf bs + 9 < length bs → payloadOf (bs ++ more) ≡ payloadOf bs
   same-payload h =
@@ -29,25 +26,25 @@ module _ (bs more : List ℕ) where
 
   same-stand : (n : ℕ) (part : List ℕ) → n + length part ≤ length bs → stand (bs ++ more) n part ≡ stand bs n part
   same-stand n [] h = refl
-  same-stand n (b ∷ part) h = λ i. eqb (read n (omega arith) i) b && same-stand (n + 1) part (omega arith) i
+  same-stand n (b ∷ part) h = λ i. eqb (same-byte bs more n (omega arith) i) b && same-stand (n + 1) part (omega arith) i
 
   same-sum : lengthOf bs + 9 < length bs → sumStands (bs ++ more) ≡ sumStands bs
   same-sum h =
-      (λ i. stand (bs ++ more) (same-length (omega arith) i + 6) (bytes4 (frameSum (read 4 (omega arith) i) (read 5 (omega arith) i) (same-payload h i))))
+      (λ i. stand (bs ++ more) (same-length (omega arith) i + 6) (bytes4 (frameSum (same-byte bs more 4 (omega arith) i) (same-byte bs more 5 (omega arith) i) (same-payload h i))))
       ∙ same-stand (lengthOf bs + 6) (bytes4 (frameSum (getD bs 4 0) (getD bs 5 0) (payloadOf bs))) (omega arith)
 
   pub frame-stays : Stays (frameTry bs) (frameTry (bs ++ more))
   frame-stays =
       judged-stays bs more 1 1 _ _ _ _ (λ one. (
         refl,
-        ap (λ b. eqb b 0xce) (read 1 one),
+        ap (λ b. eqb b 0xce) (same-byte bs more 1 one),
         judged-stays bs more 3 3 _ _ _ _ (λ three. (
           refl,
           ap lawfulLength (same-length three),
           judged-stays bs more _ _ _ _ _ _ (λ all. (
             ap (λ n. n + 9) (same-length three),
             same-sum all,
-            λ i. good (frameItem (read 4 (omega arith) i) (read 5 (omega arith) i) (same-payload all i)),
+            λ i. good (frameItem (same-byte bs more 4 (omega arith) i) (same-byte bs more 5 (omega arith) i) (same-payload all i)),
           )),
         )),
       ))

@@ -6,10 +6,15 @@ use mathlib.Core.List.{List, [], _∷_, _++_}
 use Prim.Native.Nat.{ℕ, _+_, _≤_, _<_}
 use native.Mathlib.Omega.{arith}
 use lib.Dec.{ltb}
-use lib.ListN.{length, length-append}
+use lib.ListN.{length, getD, length-append}
+use Rattle.std.proofs.shelf.Lists.{getD-append-left}
 use Rattle.std.proofs.shelf.Tests.{lt-ltb, le-ltb, ltb-true, ltb-false, cases-bool}
 use Rattle.wire.specs.Items.{Item, size}
 use Rattle.wire.specs.Tries.{Try, good, unfinished, failed, judged, ended}
+
+-- a byte is the same with more behind it
+pub same-byte : (bs more : List ℕ) (i : ℕ) → i < length bs → getD (bs ++ more) i 0 ≡ getD bs i 0
+same-byte bs more i h = getD-append-left bs more 0 i h
 
 -- what is decided stays so
 abbrev pub Stays : Try → Try → Type 0

@@ -9,12 +9,12 @@ use lib.Dec.{ltb, eqb}
 use lib.ListN.{length, getD, take, drop, length-append, length-drop, length-take}
 use lib.Seq.{take-append-add}
 use Rattle.std.specs.shelf.Lists.{leading}
-use Rattle.std.proofs.shelf.Lists.{getD-append-left, take-append-le, drop-append-le, length-take-le}
+use Rattle.std.proofs.shelf.Lists.{take-append-le, drop-append-le, length-take-le}
 use Rattle.std.proofs.shelf.Tests.{lt-ltb, le-ltb, ltb-true, ltb-false, eqb-true, and-parts, cases-bool, cases-lt}
 use Rattle.wire.specs.Sentences.{isBody, checksum, hexDigit}
 use Rattle.wire.specs.Items.{Item, sentenceItem, size}
 use Rattle.wire.specs.Tries.{Try, good, unfinished, failed, judged, isDigit, starOf, bodyTo, digitsStand, fromLf, fromCr, fromLow, fromHigh, fromStar, ended, sentenceTry}
-use Rattle.wire.proofs.Rules.{Stays, Fits, Few, judged-stays, stays-self, stays-ended, judged-has, either-has}
+use Rattle.wire.proofs.Rules.{same-byte, Stays, Fits, Few, judged-stays, stays-self, stays-ended, judged-has, either-has}
 
 leading-step : (b : Bool) (m n k : ℕ) → (m < k → n ≡ m) → cond b (1 + m) 0 < 1 + k → cond b (1 + n) 0 ≡ cond b (1 + m) 0
 leading-step true m n k ih h = ap (λ x. 1 + x) (ih (omega arith))
@@ -26,9 +26,6 @@ leading-append p [] ys h = absurd (omega arith)
 leading-append p (x ∷ xs) ys h = leading-step (p x) (leading p xs) (leading p (xs ++ ys)) (length xs) (λ k. leading-append p xs ys k) (omega arith)
 
 module _ (bs more : List ℕ) where
-  read : (i : ℕ) → i < length bs → getD (bs ++ more) i 0 ≡ getD bs i 0
-  read i h = getD-append-left bs more 0 i h
-
   same-body : (n : ℕ) → n + 4 < length bs → bodyTo (bs ++ more) n ≡ bodyTo bs n
   same-body n h =
       let one : 1 ≤ length bs = omega arith in
@@ -39,19 +36,19 @@ module _ (bs more : List ℕ) where
   star-stays n =
       judged-stays bs more n n _ _ _ _ (λ h0. (
         refl,
-        ap (λ b. eqb b 0x2a) (read n h0),
+        ap (λ b. eqb b 0x2a) (same-byte bs more n h0),
         judged-stays bs more (n + 1) (n + 1) _ _ _ _ (λ h1. (
           refl,
-          ap isDigit (read (n + 1) h1),
+          ap isDigit (same-byte bs more (n + 1) h1),
           judged-stays bs more (n + 2) (n + 2) _ _ _ _ (λ h2. (
             refl,
-            ap isDigit (read (n + 2) h2),
+            ap isDigit (same-byte bs more (n + 2) h2),
             judged-stays bs more (n + 3) (n + 3) _ _ _ _ (λ h3. (
               refl,
-              ap (λ b. eqb b 0x0d) (read (n + 3) h3),
+              ap (λ b. eqb b 0x0d) (same-byte bs more (n + 3) h3),
               judged-stays bs more (n + 4) (n + 4) _ _ _ _ (λ h4. (
                 refl,
-                λ i. eqb (read (n + 4) h4 i) 0x0a && (eqb (read (n + 1) h1 i) (hexDigit (checksum (same-body n h4 i) / 16)) && eqb (read (n + 2) h2 i) (hexDigit (checksum (same-body n h4 i) % 16))),
+                λ i. eqb (same-byte bs more (n + 4) h4 i) 0x0a && (eqb (same-byte bs more (n + 1) h1 i) (hexDigit (checksum (same-body n h4 i) / 16)) && eqb (same-byte bs more (n + 2) h2 i) (hexDigit (checksum (same-body n h4 i) % 16))),
                 ap (λ p. good (sentenceItem p)) (same-body n h4),
               )),
             )),
