@@ -66,7 +66,7 @@ pub fn kept_string<'a, M: SettingsMemory>(
     section: u8,
     buffer: &'a mut [u8; LONGEST],
 ) -> Result<Option<&'a [u8]>, Refusal>
-    ensures { lent result ≡ string_answer (meaning memory.now) section }
+    ensures { lent result ≡ string_answer (M.meaning memory.now) section }
 {
     let Some(n) = memory.read(section, buffer)? else {
         return Ok(None);

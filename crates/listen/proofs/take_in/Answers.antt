@@ -4,13 +4,13 @@ use Rattle.listen.proofs.take_in.Goals as goal
 
 pub returns : goal.returns
 returns c =
-    let listed = c.in-ok-listed.ensures in
+    let listed = c.in_ok-listed.ensures in
     let xs = c.args.bytes.now in
     let end = c.args.end in
-    let rest = c.in-ok-listed.listed.rest in
+    let rest = c.in_ok-listed.listed.rest in
     let held = c.args.held in
     record {
       unread = front xs c.move-to-front.new.bytes end rest c.requires (omega (arith, listed.within)) c.move-to-front.ensures listed.unread;
       start = c.saturating-add-start.ensures ∙ starts held.start rest end (omega (arith, listed.within));
-      good = c.saturating-add-good.ensures ∙ goods xs held.good c.in-ok-listed.listed.good end listed.good;
+      good = c.saturating-add-good.ensures ∙ goods xs held.good c.in_ok-listed.listed.good end listed.good;
     }

@@ -11,7 +11,7 @@ returns c =
     let xs = c.args.self.now.image in
     let s = c.args.section in
     let k : known s ≡ true = grind (arith, nat_tests) in
-    let a : c.in-ok-at.at ≡ start s = grind (arith, nat_tests) in
+    let a : c.in_ok-at.at ≡ start s = grind (arith, nat_tests) in
     let d = erase_done (battery_meaning xs) s k (omega arith) in
     let written : c.clear.new.image ≡ set xs (start s) 0 = c.clear.ensures ∙ ap (λ i. set xs i 0) a in
     record {

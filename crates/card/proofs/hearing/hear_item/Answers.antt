@@ -9,7 +9,7 @@ use Rattle.card.proofs.hearing.hear_item.Goals as goal
 
 pub returns : goal.returns
 returns g c =
-    let o = c.in-ok-outcome.outcome in
+    let o = c.in_ok-outcome.outcome in
     let x = item_of c.args.item in
     let v = state_of g.M.SettingsMemory.meaning c.obey.new.self in
     let wrote = c.answer-n.ensures.wrote ∙ ap (λ t. take c.args.tally.now.written c.args.reply.now ++ written (answers_to x o (settings_of t))) c.settings.ensures in
@@ -23,7 +23,7 @@ returns g c =
       heard = λ b s k.
           let both = c.obey.ensures.obeyed b s.events k.follows in
           let asked = c.decode.ensures in
-          let is = ap (value_in o) (sym c.in-ok-outcome.was ∙ both.0) ∙ ap (outcome b s.events) asked in
+          let is = ap (value_in o) (sym c.in_ok-outcome.was ∙ both.0) ∙ ap (outcome b s.events) asked in
           let follows = subst (λ r. Follows b (heard b s.events r) v) asked both.1 in
           heard_more b s x o c.args.tally.now c.args.reply.now _ _ _ _ _ v k is follows wrote lawful c.accepts.ensures c.turns-down.ensures;
     }

@@ -2,12 +2,12 @@ use Rattle.std.proofs.Common.{length, ◌∙◌}
 use Rattle.commands.proofs.Digits.{some_there, one_more, stopped, all_read}
 use Rattle.commands.proofs.fields.number.Goals as goal
 
-pub returns-in-err-number : goal.returns-in-err-number
-returns-in-err-number c = c.from-residual.ensures ∙ stopped c.args.field.now c.loop-b.b-index c.loop-b.invariant.2 c.loop-b-test.true c.in-err-number.ensures
+pub returns-in_err-number : goal.returns-in_err-number
+returns-in_err-number c = c.from-residual.ensures ∙ stopped c.args.field.now c.loop-b.b-index c.loop-b.invariant.2 c.loop-b-test.true c.in_err-number.ensures
 
 pub loop-b-preserved : goal.loop-b-preserved
 loop-b-preserved c =
-    one_more c.args.field.now c.loop-b.b-index c.loop-b.invariant.2 c.loop-b.number c.in-ok-number.field-0 c.loop-b-test.true c.loop-b.invariant.0 c.loop-b.invariant.1 c.in-ok-number.ensures
+    one_more c.args.field.now c.loop-b.b-index c.loop-b.invariant.2 c.loop-b.number c.in_ok-number.field-0 c.loop-b-test.true c.loop-b.invariant.0 c.loop-b.invariant.1 c.in_ok-number.ensures
 
 pub returns : goal.returns
 returns c =

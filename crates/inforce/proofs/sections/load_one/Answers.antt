@@ -3,8 +3,8 @@ use Rattle.inforce.specs.Has.{strings_of}
 use Rattle.inforce.proofs.Loads.{load_settings, load_counts}
 use Rattle.inforce.proofs.sections.load_one.Goals as goal
 
-pub returns-in-ok-load-section : goal.returns-in-ok-load-section
-returns-in-ok-load-section g c =
+pub returns-in_ok-load-section : goal.returns-in_ok-load-section
+returns-in_ok-load-section g c =
     let among = sym c.has.ensures ∙ c.if-has.true in
     record {
       done = refl;

@@ -4,17 +4,17 @@ use Rattle.inforce.specs.Sections.{with_filed}
 use Rattle.inforce.proofs.Writes.{keep_answers, keep_strings, keep_left, keep_price}
 use Rattle.inforce.proofs.sections.write_one.Goals as goal
 
-pub returns-in-err-keep-section : goal.returns-in-err-keep-section
-returns-in-err-keep-section g c =
+pub returns-in_err-keep-section : goal.returns-in_err-keep-section
+returns-in_err-keep-section g c =
     let m = g.M.SettingsMemory.meaning c.args.memory.now in
     let among = sym c.has.ensures ∙ c.if-has.true in
     let ok : c.keep-section.result ≡ Ok tt = c.keep-section.ensures.answer ∙ keep_answers m c.args.settings.now c.args.sections c.args.section among c.requires in
-    let was = c.in-err-keep-section.was in
+    let was = c.in_err-keep-section.was in
     let z : ◌≡◌ {A = ℕ} 0 1 = cc in
     absurd (omega arith)
 
-pub returns-in-ok-keep-section : goal.returns-in-ok-keep-section
-returns-in-ok-keep-section g c =
+pub returns-in_ok-keep-section : goal.returns-in_ok-keep-section
+returns-in_ok-keep-section g c =
     let m = g.M.SettingsMemory.meaning c.args.memory.now in
     let s = c.args.settings.now in
     let x = c.args.sections in

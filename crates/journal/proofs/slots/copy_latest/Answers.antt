@@ -5,11 +5,11 @@ use Rattle.journal.specs.Slots.{slots, content, latest}
 use Rattle.journal.proofs.Search.{latest_is, nowhere_none}
 use Rattle.journal.proofs.slots.copy_latest.Goals as goal
 
-pub returns-in-default : goal.returns-in-default
-returns-in-default c =
+pub returns-in_default : goal.returns-in_default
+returns-in_default c =
     let xs = c.args.image.now in
     let s = c.args.section in
-    let none : latest xs s (slots xs) ≡ None = nowhere_none xs s (slots xs) c.in-default.ensures in
+    let none : latest xs s (slots xs) ≡ None = nowhere_none xs s (slots xs) c.in_default.ensures in
     record { size = ap (option_map length) (sym none); copied = ap (λ o. with_string o c.args.out.now) (sym none); fits = c.requires }
 
 pub returns : goal.returns
