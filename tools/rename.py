@@ -70,7 +70,7 @@ def defined():
 def new_names():
     names = {}
     for name, is_type in sorted(defined().items()):
-        if not ("-" in name or (is_type and "_" in name) or re.search(r"[a-z][A-Z]", name)):
+        if name not in SPECIAL and not ("-" in name or (is_type and "_" in name) or re.search(r"[a-z][A-Z]", name)):
             continue
         if name in SPECIAL.values():
             continue

@@ -7,7 +7,7 @@ use Rattle.std.proofs.lemmas.Bool.Decides.{nat_tests}
 use Rattle.std.proofs.lemmas.List.{get_or-set_same, get_or-set_other, length-set, take_at, drop-take, take-take, drop-drop}
 use Rattle.memory.specs.Bytes.{part}
 use Rattle.memory.specs.Memory.{known, changed}
-use Rattle.memory.proofs.Bytes.{get_d_part, same_part, length-over_from, get_or-over_from, drop-over_from}
+use Rattle.memory.proofs.Bytes.{get_or-part, same_part, length-over_from, get_or-over_from, drop-over_from}
 use Rattle.battery.specs.Places.{start, string_in, filled, battery_string, battery_meaning}
 
 -- two places lie apart
@@ -27,14 +27,14 @@ placed xs ys s v k here apart =
     (λ kq. cond-false (known q) _ _ kq ∙ sym (cond-false (known q) _ _ kq)) (cases_Bool (known q)) in
     let all : (q : ℕ) → battery_string ys q ≡ update eqb (battery_string xs) s v q = λ q. ⊎_elim
     (λ e. subst (λ x. battery_string ys x ≡ update eqb (battery_string xs) s v x) (sym e) at_s)
-    (λ ne. kept q ne ∙ sym (cond-false (eqb q s) v _ (ne_eqb q s ne))) (cases_eq q s) in
+    (λ ne. kept q ne ∙ sym (cond-false (eqb s q) v _ (ne_eqb s q (λ e. ne (sym e))))) (cases_eq q s) in
     ap (λ f. record { string = f; left = 0; price = 0 }) (fun_ext all)
 
 pub erased : (xs : List ℕ) (s : ℕ) → known s ≡ true → 320 ≤ length xs → battery_meaning (set xs (start s) 0) ≡ changed (battery_meaning xs) s None
 erased xs s k long =
     let w = start_within s k in
     let ys : List ℕ = set xs (start s) 0 in
-    let z : get_or (part ys (start s)) 0 0 ≡ 0 = get_d_part ys (start s) 0 (omega arith) ∙ ap (λ i. get_or ys i 0) (add-zero (start s)) ∙ get_or-set_same xs (start s) 0 0 (omega arith) in
+    let z : get_or (part ys (start s)) 0 0 ≡ 0 = get_or-part ys (start s) 0 (omega arith) ∙ ap (λ i. get_or ys i 0) (add-zero (start s)) ∙ get_or-set_same xs (start s) 0 0 (omega arith) in
     placed xs ys s None k (ap (λ b. cond (eqb b 1 && leb (get_or (part ys (start s)) 1 0) 56) (Some (take (get_or (part ys (start s)) 1 0) (drop 4 (part ys (start s))))) None) z)
     (λ a h. same_part xs ys a (length-set xs (start s) 0) (λ i l m. get_or-set_other xs (start s) i 0 0 (⊎_elim (λ (g : a + 64 ≤ start s) (e : i ≡ start s). omega arith) (λ (g : start s + 64 ≤ a) (e : i ≡ start s). omega arith) h)))
 
@@ -61,8 +61,8 @@ module _ (xs : List ℕ) (a : ℕ) (b : List ℕ) (long : a + 64 ≤ length xs) 
       let zs : List ℕ = set (set xs a 1) (a + 1) (length b) in
       let n : a ≡ a + 1 → ⊥ = λ e. omega arith in
       let s1 = length-set xs a 1 in
-      let one : get_or (part ys a) 0 0 ≡ 1 = get_d_part ys a 0 (omega arith) ∙ ap (λ i. get_or ys i 0) (add-zero a) ∙ get_or-over_from (a + 4) b zs (omega arith) a (inl (omega arith)) ∙ get_or-set_other (set xs a 1) (a + 1) a (length b) 0 n ∙ get_or-set_same xs a 1 0 (omega arith) in
-      let len : get_or (part ys a) 1 0 ≡ length b = get_d_part ys a 1 (omega arith) ∙ get_or-over_from (a + 4) b zs (omega arith) (a + 1) (inl (omega arith)) ∙ get_or-set_same (set xs a 1) (a + 1) (length b) 0 (omega arith) in
+      let one : get_or (part ys a) 0 0 ≡ 1 = get_or-part ys a 0 (omega arith) ∙ ap (λ i. get_or ys i 0) (add-zero a) ∙ get_or-over_from (a + 4) b zs (omega arith) a (inl (omega arith)) ∙ get_or-set_other (set xs a 1) (a + 1) a (length b) 0 n ∙ get_or-set_same xs a 1 0 (omega arith) in
+      let len : get_or (part ys a) 1 0 ≡ length b = get_or-part ys a 1 (omega arith) ∙ get_or-over_from (a + 4) b zs (omega arith) (a + 1) (inl (omega arith)) ∙ get_or-set_same (set xs a 1) (a + 1) (length b) 0 (omega arith) in
       let got : take (length b) (drop 4 (part ys a)) ≡ b = ap (take (length b)) (drop-take 4 60 (drop a ys)) ∙ take-take (length b) 60 (drop 4 (drop a ys)) (omega arith) ∙ ap (take (length b)) (drop-drop 4 a ys ∙ drop-over_from (a + 4) b zs (omega arith)) ∙ take_at b (drop (length b) (drop (a + 4) zs)) (length b) refl in
       let l = le-leb (length b) 56 few in
       rw (one, len, l, got)

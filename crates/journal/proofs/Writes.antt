@@ -3,13 +3,17 @@ use Rattle.std.proofs.Common.{◌≡◌, ℕ, zero, suc, ◌+◌, ◌-◌, ◌*�
 use mathlib.Core.Path.{fun_ext}
 use Rattle.std.specs.Map.{update}
 use Rattle.std.proofs.lemmas.List.{take-take, take_at}
-use Rattle.std.proofs.lemmas.Bool.{cond-true, cond-false, le-leb, eqb-true, cases_lt}
+use Rattle.std.proofs.lemmas.Bool.{cond-true, cond-false, le-leb, eqb-true, eq-eqb, ne_eqb, cases_eq, cases_lt}
 use Rattle.memory.specs.Bytes.{over}
 use Rattle.memory.specs.Memory.{known, changed}
 use Rattle.memory.proofs.Bytes.{same_part, length-over_from, get_or-over_from, drop-over_from}
 use Rattle.journal.specs.Slots.{slots, slot, free, well_formed, names, content, latest, used, journal_meaning}
 use Rattle.journal.specs.Writes.{entry, appended}
 use Rattle.journal.proofs.Search.{used_more, latest_more, free_after}
+
+-- a test of two numbers may be turned round
+eqb_turned : (m n : ℕ) → eqb m n ≡ eqb n m
+eqb_turned m n = ⊎_elim (λ e. eq-eqb m n e ∙ sym (eq-eqb n m (sym e))) (λ ne. ne_eqb m n ne ∙ sym (ne_eqb n m (λ e. ne (sym e)))) (cases_eq m n)
 
 -- a free slot names no section
 free_nameless : (p : List ℕ) (s : ℕ) → free p ≡ true → names p s ≡ false
@@ -64,7 +68,7 @@ module _ (xs w : List ℕ) (small : length w ≤ 64) (room : used xs (slots xs) 
       let older : latest ys q u ≡ latest xs q n = latest_same xs ys q u (λ j l. slot_other j (λ e. omega arith)) ∙ sym (latest_past xs u q (n - u) was_free) ∙ ap (latest xs q) before in
       let named : names (slot ys u) q ≡ eqb q s = ap (λ z. names z q) here ∙ ap₂ (λ x y. x && eqb q y) f names-s in
       ap (latest ys q) (same_slots ∙ sym whole) ∙ latest_past ys (u + 1) q k still_free ∙ latest_more ys q u
-      ∙ ap (λ t. cond t (content (slot ys u)) (latest ys q u)) named ∙ ap₂ (λ x y. cond (eqb q s) x y) (ap content here ∙ says) older in
+      ∙ ap (λ t. cond t (content (slot ys u)) (latest ys q u)) named ∙ ap₂ (λ x y. cond (eqb q s) x y) (ap content here ∙ says) older ∙ ap (λ b. cond b v (latest xs q n)) (eqb_turned q s) in
       let now_used : used ys (slots ys) ≡ u + 1 = ap (used ys) (same_slots ∙ sym whole) ∙ used_past ys (u + 1) k still_free ∙ used_more ys u ∙ cond-false _ _ _ (ap free here ∙ busy) in
       let lefts : slots ys - used ys (slots ys) ≡ n - u - 1 = ap₂ (λ x y. x - y) same_slots now_used ∙ omega arith in
       ap₂ (λ f l. record { string = f; left = l; price = 1 }) (fun_ext strings) lefts

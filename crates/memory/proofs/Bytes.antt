@@ -4,14 +4,14 @@ use Rattle.std.proofs.lemmas.List.{places, get_or-take, get_or-drop, ext_get_or,
 use Rattle.memory.specs.Bytes.{over, over_from, part}
 
 module _ (xs : List ℕ) (a k : ℕ) (l : k < 64) where
-  pub get_d_part : get_or (part xs a) k 0 ≡ get_or xs (a + k) 0
-  get_d_part = rw (get_or-take, get_or-drop)
+  pub get_or-part : get_or (part xs a) k 0 ≡ get_or xs (a + k) 0
+  get_or-part = rw (get_or-take, get_or-drop)
 
 -- parts with the same elements
 pub same_part : (xs ys : List ℕ) (a : ℕ) → length ys ≡ length xs → ((k : ℕ) → a ≤ k → k < a + 64 → get_or ys k 0 ≡ get_or xs k 0) → part ys a ≡ part xs a
 same_part xs ys a e h = ext_get_or 0 (part ys a) (part xs a) (simp (length-take, length-drop, e)) (λ k l.
     let m : k < 64 = omega (arith, simp (length-take, length-drop) at l) in
-    get_d_part ys a k m ∙ h (a + k) (omega arith) (omega arith) ∙ sym (get_d_part xs a k m))
+    get_or-part ys a k m ∙ h (a + k) (omega arith) (omega arith) ∙ sym (get_or-part xs a k m))
 
 module _ (a : ℕ) (b xs : List ℕ) (fits : a + length b ≤ length xs) where
   pub length-over_from : length (over_from a b xs) ≡ length xs

@@ -10,7 +10,7 @@ returns c =
     let rest = c.in_ok-listed.listed.rest in
     let held = c.args.held in
     record {
-      unread = front xs c.move-to-front.new.bytes end rest c.requires (omega (arith, listed.within)) c.move-to-front.ensures listed.unread;
-      start = c.saturating-add-start.ensures ∙ starts held.start rest end (omega (arith, listed.within));
-      good = c.saturating-add-good.ensures ∙ goods xs held.good c.in_ok-listed.listed.good end listed.good;
+      unread = front xs c.move_to_front.new.bytes end rest c.requires (omega (arith, listed.within)) c.move_to_front.ensures listed.unread;
+      start = c.saturating_add-start.ensures ∙ starts held.start rest end (omega (arith, listed.within));
+      good = c.saturating_add-good.ensures ∙ goods xs held.good c.in_ok-listed.listed.good end listed.good;
     }

@@ -14,8 +14,8 @@ returns c =
     let is : take (n - 0) c.payload-n.new.out ≡ p = ap (take (n - 0)) told.out ∙ take_at p _ (n - 0) (sym whole) in
     let size = ap length is in
     record {
-      wrote = c.put-frame.ensures.wrote ∙ ap (λ q. take c.args.at c.args.reply.now ++ frame c.args.class c.args.id q) is;
+      wrote = c.put_frame.ensures.wrote ∙ ap (λ q. take c.args.at c.args.reply.now ++ frame c.args.class c.args.id q) is;
       lawful = told.lawful;
-      behind = c.put-frame.ensures.behind;
-      few = omega (arith, c.put-frame.ensures.size, size, told.few);
+      behind = c.put_frame.ensures.behind;
+      few = omega (arith, c.put_frame.ensures.size, size, told.few);
     }

@@ -14,13 +14,13 @@ loop-place-preserved g c =
     let bytes = c.args.bytes.now in
     let ending = c.args.ending in
     let at = c.loop-place.place.at in
-    let to = c.read-next.new.place.at in
+    let to = c.read_next.new.place.at in
     let x = item_of c.in-Good.item in
     let found = c.in-Good.ensures in
-    let did = c.hear-item.ensures in
+    let did = c.hear_item.ensures in
     let ahead : at + size x ≤ to = omega (arith, found.place, found.stands.0) in
     let inside : to ≤ length bytes = omega (arith, found.place, found.stands.2) in
-    let long : length c.hear-item.new.reply ≡ length c.loop-place.reply = c.hear-item.auto.reply in (
+    let long : length c.hear_item.new.reply ≡ length c.loop-place.reply = c.hear_item.auto.reply in (
       good_where ending bytes at to x _ _ _ _ _ _ found.reads ahead inside c.loop-place.invariant.0 did.behind did.more did.few did.one (some_size x) long,
       λ b h f. good_said ending bytes at to x _ b h _ _ _ _ _ _ found.reads did.heard (c.loop-place.invariant.1 b h f),
     )
@@ -28,7 +28,7 @@ loop-place-preserved g c =
 pub returns-in-End : goal.returns-in-End
 returns-in-End g c =
     let bytes = c.args.bytes.now in
-    let to = c.read-next.new.place.at in
+    let to = c.read_next.new.place.at in
     let found = c.in-End.ensures in
     let w = c.loop-place.invariant.0 in
     let at_end : to ≡ length bytes = omega (arith, found.place) in

@@ -19,11 +19,11 @@ returns g c =
       behind = c.answer-n.ensures.behind;
       more = omega arith;
       few = omega (arith, c.answer-n.ensures.few);
-      one = omega (arith, c.accepts.ensures, c.turns-down.ensures, one_counts o);
+      one = omega (arith, c.accepts.ensures, c.turns_down.ensures, one_counts o);
       heard = λ b s k.
           let both = c.obey.ensures.obeyed b s.events k.follows in
           let asked = c.decode.ensures in
           let is = ap (value_in o) (sym c.in_ok-outcome.was ∙ both.0) ∙ ap (outcome b s.events) asked in
           let follows = subst (λ r. Follows b (heard b s.events r) v) asked both.1 in
-          heard_more b s x o c.args.tally.now c.args.reply.now _ _ _ _ _ v k is follows wrote lawful c.accepts.ensures c.turns-down.ensures;
+          heard_more b s x o c.args.tally.now c.args.reply.now _ _ _ _ _ v k is follows wrote lawful c.accepts.ensures c.turns_down.ensures;
     }

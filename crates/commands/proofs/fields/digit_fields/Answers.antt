@@ -3,7 +3,7 @@ use Rattle.std.proofs.lemmas.List.{length-set, length-take-le}
 use Rattle.commands.specs.Commands.{rates_request}
 use Rattle.commands.proofs.DigitFields.{sized, next_field, no_field, too_many, all_fields}
 use Rattle.commands.proofs.fields.digit_fields.Goals as goal
-use Rattle.commands.proofs.fields.digit_fields.Goals.{then-is-some, else-is-some, then-rest-at-ne44-via-then-rest-at-ne44, then-rest-at-ne44-via-else-rest-at-ne44+then-count-eq14}
+use Rattle.commands.proofs.fields.digit_fields.Goals.{then-is_some, else-is_some, then-rest-at-ne44-via-then-rest-at-ne44, then-rest-at-ne44-via-else-rest-at-ne44+then-count-eq14}
 
 pub returns-then-rest-at-ne44 : goal.returns-then-rest-at-ne44
 returns-then-rest-at-ne44 c =
@@ -24,11 +24,11 @@ pub loop-at-preserved : goal.loop-at-preserved
 loop-at-preserved c =
     let digits = c.loop-at.digits in
     let count = c.loop-at.count in
-    let digit = c.digit-at-digit.result in
+    let digit = c.digit_at-digit.result in
     let whole = c.loop-at.invariant.1 in
-    let some = c.is-some.result in
-    let size : c.if-is-some.at ≡ cond some 2 1 = elim c.if-is-some.branch [ then-is-some w ↦ w.at-is ∙ sym (ap (λ t. cond t 2 1) w.if-is-some.true) | else-is-some w ↦ w.at-is ∙ sym (ap (λ t. cond t 2 1) w.if-is-some.false) ] in
-    (omega arith, length-set digits count digit ∙ whole, next_field c.args.rest.now digits count c.loop-at.at c.loop-at.invariant.2 digit c.if-is-some.at c.loop-at-test.true c.if-rest-at-ne44.false (omega arith) c.digit-at-digit.ensures (sized digit some c.if-is-some.at c.is-some.ensures size))
+    let some = c.is_some.result in
+    let size : c.if-is_some.at ≡ cond some 2 1 = elim c.if-is_some.branch [ then-is_some w ↦ w.at-is ∙ sym (ap (λ t. cond t 2 1) w.if-is_some.true) | else-is_some w ↦ w.at-is ∙ sym (ap (λ t. cond t 2 1) w.if-is_some.false) ] in
+    (omega arith, length-set digits count digit ∙ whole, next_field c.args.rest.now digits count c.loop-at.at c.loop-at.invariant.2 digit c.if-is_some.at c.loop-at-test.true c.if-rest-at-ne44.false (omega arith) c.digit_at-digit.ensures (sized digit some c.if-is_some.at c.is_some.ensures size))
 
 pub returns : goal.returns
 returns c = record { within = c.loop-at.invariant.0; rates = ap rates_request (all_fields c.args.rest.now c.loop-at.digits c.loop-at.count c.loop-at.at c.loop-at.invariant.2 c.loop-at-test.false) }

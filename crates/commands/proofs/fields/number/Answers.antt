@@ -11,4 +11,4 @@ loop-b-preserved c =
 
 pub returns : goal.returns
 returns c =
-    all_read c.args.field.now c.loop-b.b-index c.loop-b.invariant.2 c.loop-b.number c.loop-b-test.false c.loop-b.auto.b-index-end (some_there (length c.args.field.now) c.if-is-empty.ensures) c.if-field-gt5.false c.loop-b.invariant.1
+    all_read c.args.field.now c.loop-b.b-index c.loop-b.invariant.2 c.loop-b.number c.loop-b-test.false c.loop-b.auto.b-index-end (some_there (length c.args.field.now) c.if-is_empty.ensures) c.if-field-gt5.false c.loop-b.invariant.1

@@ -7,8 +7,8 @@ use Rattle.commands.proofs.sentences.sentence_request.Goals as goal
 pub returns : goal.returns
 returns c =
     let body = c.args.body.now in
-    let n : ℕ = c.address-size-size.result in
-    let size = c.address-size-size.ensures.size in
+    let n : ℕ = c.address_size-size.result in
+    let size = c.address_size-size.ensures.size in
     let address : take n body ≡ address_of body = ap (λ k. take k body) size in
     let rest : take (length body - n) (drop n body) ≡ behind_address body = take_rest body n ∙ ap (λ k. drop k body) size in
-    c.request-by.ensures ∙ ap₂ sentence_request address rest
+    c.request_by.ensures ∙ ap₂ sentence_request address rest

@@ -9,12 +9,12 @@ pub returns : goal.returns
 returns c =
     let xs = c.args.image.now in
     let b = c.args.bytes.now in
-    let next = c.used-slots-next.result in
-    let slot = c.write-slot.ensures.slot in
+    let next = c.used_slots-next.result in
+    let slot = c.write_slot.ensures.slot in
     let within : 64 * next ≤ length xs = omega arith in
     record {
       answer = grind (arith, nat_tests);
-      after = c.write-slot.ensures.image ∙ over_over (64 * next) (header c.args.kind c.args.section (length b)) b xs within
-          ∙ ap (λ i. over_from (64 * i) (entry c.args.kind c.args.section b) xs) c.used-slots-next.ensures.count;
+      after = c.write_slot.ensures.image ∙ over_over (64 * next) (header c.args.kind c.args.section (length b)) b xs within
+          ∙ ap (λ i. over_from (64 * i) (entry c.args.kind c.args.section b) xs) c.used_slots-next.ensures.count;
       fits = search rules;
     }

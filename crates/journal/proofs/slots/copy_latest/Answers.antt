@@ -16,9 +16,9 @@ pub returns : goal.returns
 returns c =
     let xs = c.args.image.now in
     let s = c.args.section in
-    let is : content c.slot-at.result.now ≡ latest xs s (slots xs) = ap content c.slot-at.ensures.value ∙ sym (latest_is xs s (slots xs) c.in-Some.i c.in-Some.ensures) in
+    let is : content c.slot_at.result.now ≡ latest xs s (slots xs) = ap content c.slot_at.ensures.value ∙ sym (latest_is xs s (slots xs) c.in-Some.i c.in-Some.ensures) in
     record {
-      size = c.copy-content.ensures.size ∙ ap (option_map length) is;
-      copied = c.copy-content.ensures.copied ∙ ap (λ o. with_string o c.args.out.now) is;
+      size = c.copy_content.ensures.size ∙ ap (option_map length) is;
+      copied = c.copy_content.ensures.copied ∙ ap (λ o. with_string o c.args.out.now) is;
       fits = c.requires;
     }

@@ -6,9 +6,9 @@ use Rattle.messages.proofs.gga.write_gga.Goals as goal
 pub returns : goal.returns
 returns c =
     let fine = gga_good c.args.systems.mask c.args.fix.now (short_line c.body-line.result c.body-line.ensures) in
-    let body = c.as-bytes.ensures ∙ c.body-line.ensures in
+    let body = c.as_bytes.ensures ∙ c.body-line.ensures in
     record {
-      bytes = c.write-sentence.ensures ∙ ap (λ text. sentence_written text c.args.out.now) body ∙ fitted_good _ c.args.out.now fine;
+      bytes = c.write_sentence.ensures ∙ ap (λ text. sentence_written text c.args.out.now) body ∙ fitted_good _ c.args.out.now fine;
       good = fine;
       tells = gga_tells c.args.systems.mask c.args.fix.now;
     }

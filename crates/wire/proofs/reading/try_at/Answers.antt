@@ -17,6 +17,6 @@ here e bs at t inside is =
 pub returns : goal.returns
 returns c =
     let at = c.args.place.now.at in
-    let is = c.end-by.ensures.verdict ∙ ap (ended_by c.args.ending) c.try-here.ensures.verdict in
-    let both = here c.args.ending c.args.bytes.now at (seen c.end-by.result) c.requires is in
-    record { reads = both.0; place = c.try-here.ensures.place ∙ ap (λ n. at + n) (sym c.end-by.ensures.spends); room = both.1 }
+    let is = c.end_by.ensures.verdict ∙ ap (ended_by c.args.ending) c.try_here.ensures.verdict in
+    let both = here c.args.ending c.args.bytes.now at (seen c.end_by.result) c.requires is in
+    record { reads = both.0; place = c.try_here.ensures.place ∙ ap (λ n. at + n) (sym c.end_by.ensures.spends); room = both.1 }

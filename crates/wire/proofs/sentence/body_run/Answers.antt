@@ -5,12 +5,12 @@ use Rattle.wire.proofs.sentence.body_run.Goals as goal
 
 pub loop-at-preserved : goal.loop-at-preserved
 loop-at-preserved c =
-    let e = prefix_len-drop_yes is_body c.args.bytes.now c.loop-at.at 0 (omega arith) (sym c.is-body.ensures ∙ c.if-not-is-body.false) in
+    let e = prefix_len-drop_yes is_body c.args.bytes.now c.loop-at.at 0 (omega arith) (sym c.is_body.ensures ∙ c.if-not-is_body.false) in
     (omega arith, omega arith, omega arith)
 
-pub returns-then-not-is-body : goal.returns-then-not-is-body
-returns-then-not-is-body c =
-    let e = prefix_len-drop_no is_body c.args.bytes.now c.loop-at.at 0 (omega arith) (sym c.is-body.ensures ∙ c.if-not-is-body.true) in
+pub returns-then-not-is_body : goal.returns-then-not-is_body
+returns-then-not-is_body c =
+    let e = prefix_len-drop_no is_body c.args.bytes.now c.loop-at.at 0 (omega arith) (sym c.is_body.ensures ∙ c.if-not-is_body.true) in
     record { run = omega arith; within = omega arith }
 
 pub returns : goal.returns

@@ -5,6 +5,6 @@ use Rattle.wire.proofs.tries.try_sentence.Goals as goal
 
 pub returns : goal.returns
 returns c = record {
-  verdict = c.without-more.ensures.verdict ∙ full_size c.args.bytes.now (seen c.try-sized-2.result) (omega arith) c.try-sized-2.ensures.verdict;
-  place = c.try-sized-2.ensures.place ∙ ap (λ n. c.args.place.now.at + n) (sym c.without-more.ensures.spends);
+  verdict = c.without_more.ensures.verdict ∙ full_size c.args.bytes.now (seen c.try_sized-2.result) (omega arith) c.try_sized-2.ensures.verdict;
+  place = c.try_sized-2.ensures.place ∙ ap (λ n. c.args.place.now.at + n) (sym c.without_more.ensures.spends);
 }

@@ -6,5 +6,5 @@ use Rattle.card.proofs.parts.Card.sheet.Goals as goal
 pub returns-in-Ok : goal.returns-in-Ok
 returns-in-Ok g c b h k =
     let same = ap settings_of c.settings.ensures ∙ k.follows.settings in
-    let after = c.write-sheet.new.out in
-    ap (λ r. (sheet_numbers r, after)) (sym c.in-Ok.is) ∙ sheet_told _ _ c.write-sheet.result c.args.output.now after same c.write-sheet.ensures
+    let after = c.write_sheet.new.out in
+    ap (λ r. (sheet_numbers r, after)) (sym c.in-Ok.is) ∙ sheet_told _ _ c.write_sheet.result c.args.output.now after same c.write_sheet.ensures

@@ -5,4 +5,4 @@ pub returns : goal.returns
 returns c =
     let s = c.args.settings.now in
     let size = told_size c.args.self s in
-    record { size = c.write-payload.ensures.size; out = c.write-payload.ensures.out; lawful = size.0; few = size.1; back = told_back c.args.self s }
+    record { size = c.write_payload.ensures.size; out = c.write_payload.ensures.out; lawful = size.0; few = size.1; back = told_back c.args.self s }

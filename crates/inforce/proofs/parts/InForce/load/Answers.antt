@@ -9,9 +9,9 @@ returns g c =
     record {
       done = refl;
       after = loaded_five c.args.sections v _ _ _ _ _ _ _ _ _ _
-          (c.load-one.ensures.settings, c.load-one.ensures.counts)
-          (c.load-one-2.ensures.settings, c.load-one-2.ensures.counts)
-          (c.load-one-3.ensures.settings, c.load-one-3.ensures.counts)
-          (c.load-one-4.ensures.settings, c.load-one-4.ensures.counts)
-          (c.load-one-5.ensures.settings, c.load-one-5.ensures.counts);
+          (c.load_one.ensures.settings, c.load_one.ensures.counts)
+          (c.load_one-2.ensures.settings, c.load_one-2.ensures.counts)
+          (c.load_one-3.ensures.settings, c.load_one-3.ensures.counts)
+          (c.load_one-4.ensures.settings, c.load_one-4.ensures.counts)
+          (c.load_one-5.ensures.settings, c.load_one-5.ensures.counts);
     }

@@ -9,9 +9,9 @@ returns g c =
     record {
       done = refl;
       after = written_five c.args.sections v c.args.writing _ _ _ _ _ _ _ _ _ _ _ _ _ _ _
-          (record { string = c.write-one.ensures.strings; paid = c.write-one.ensures.left; same = c.write-one.ensures.price })
-          (record { string = c.write-one-2.ensures.strings; paid = c.write-one-2.ensures.left; same = c.write-one-2.ensures.price })
-          (record { string = c.write-one-3.ensures.strings; paid = c.write-one-3.ensures.left; same = c.write-one-3.ensures.price })
-          (record { string = c.write-one-4.ensures.strings; paid = c.write-one-4.ensures.left; same = c.write-one-4.ensures.price })
-          (record { string = c.write-one-5.ensures.strings; paid = c.write-one-5.ensures.left; same = c.write-one-5.ensures.price });
+          (record { string = c.write_one.ensures.strings; paid = c.write_one.ensures.left; same = c.write_one.ensures.price })
+          (record { string = c.write_one-2.ensures.strings; paid = c.write_one-2.ensures.left; same = c.write_one-2.ensures.price })
+          (record { string = c.write_one-3.ensures.strings; paid = c.write_one-3.ensures.left; same = c.write_one-3.ensures.price })
+          (record { string = c.write_one-4.ensures.strings; paid = c.write_one-4.ensures.left; same = c.write_one-4.ensures.price })
+          (record { string = c.write_one-5.ensures.strings; paid = c.write_one-5.ensures.left; same = c.write_one-5.ensures.price });
     }

@@ -9,6 +9,6 @@ pub returns : goal.returns
 returns c =
     let s = c.args.self.now in
     let string : List ℕ = kept_string (values s) c.args.section in
-    let e = c.write-string.ensures in
-    let got : take c.write-string.result c.write-string.new.out ≡ string = ap₂ take e.size e.out ∙ take_at string (drop (length string) c.args.out.now) (length string) refl in
+    let e = c.write_string.ensures in
+    let got : take c.write_string.result c.write_string.new.out ≡ string = ap₂ take e.size e.out ∙ take_at string (drop (length string) c.args.out.now) (length string) refl in
     record { size = e.size; out = e.out; back = ap (read_back (values s) c.args.section) got ∙ back s c.args.section }
