@@ -40,7 +40,7 @@ fn keep(into: &mut [u8], rest: &[u8])
 impl<M: SettingsMemory> Card<M> {
     // A card on a memory: every setting takes its kept value, or the factory value where none is kept.
     pub fn build(memory: M) -> Card<M>
-        ensures { Keeps (found (meaning memory)) start (whole_of meaning result) }
+        ensures { Keeps (found (M.meaning memory)) start (whole_of M.meaning result) }
     {
         Card {
             inside: InForce::build(memory),
@@ -58,7 +58,7 @@ impl<M: SettingsMemory> Card<M> {
     ) -> Result<(usize, usize, usize), memory::Refusal>
         requires few { length bytes.now ≤ 256 }
         requires room { 2304 ≤ length reply.old }
-        ensures { (b : State) (h : History) → Keeps b h (whole_of meaning self.old) → Goes b (hears b h ending bytes.now) (memory_answer result) reply.old reply.new (whole_of meaning self.new) }
+        ensures { (b : State) (h : History) → Keeps b h (whole_of M.meaning self.old) → Goes b (hears b h ending bytes.now) (memory_answer result) reply.old reply.new (whole_of M.meaning self.new) }
     {
         let mut joined = [0u8; 337];
         let first = self.len;
@@ -81,7 +81,7 @@ impl<M: SettingsMemory> Card<M> {
 
     // Reads bytes; what is unfinished waits for more.
     pub fn send(&mut self, bytes: &[u8], reply: &mut [u8]) -> Result<(usize, usize, usize), Refusal>
-        ensures { (b : State) (h : History) → Keeps b h (whole_of meaning self.old) → Goes b (send_turn b h bytes.now (length reply.old)) (answer_of result) reply.old reply.new (whole_of meaning self.new) }
+        ensures { (b : State) (h : History) → Keeps b h (whole_of M.meaning self.old) → Goes b (send_turn b h bytes.now (length reply.old)) (answer_of result) reply.old reply.new (whole_of M.meaning self.new) }
     {
         if bytes.len() > LONGEST_SEND {
             return Err(Refusal::SendTooLong);
@@ -97,7 +97,7 @@ impl<M: SettingsMemory> Card<M> {
 
     // The line pauses: what is unfinished fails, and nothing stays unread.
     pub fn pause(&mut self, reply: &mut [u8]) -> Result<(usize, usize, usize), Refusal>
-        ensures { (b : State) (h : History) → Keeps b h (whole_of meaning self.old) → Goes b (pause_turn b h (length reply.old)) (answer_of result) reply.old reply.new (whole_of meaning self.new) }
+        ensures { (b : State) (h : History) → Keeps b h (whole_of M.meaning self.old) → Goes b (pause_turn b h (length reply.old)) (answer_of result) reply.old reply.new (whole_of M.meaning self.new) }
     {
         if reply.len() < REPLY_ROOM {
             return Err(Refusal::ReplyTooShort);
@@ -110,7 +110,7 @@ impl<M: SettingsMemory> Card<M> {
 
     // Power comes back: unread bytes are dropped, and every setting takes its kept or factory value.
     pub fn power(&mut self)
-        ensures { (b : State) (h : History) → Keeps b h (whole_of meaning self.old) → Keeps b (power_turn h).next (whole_of meaning self.new) }
+        ensures { (b : State) (h : History) → Keeps b h (whole_of M.meaning self.old) → Keeps b (power_turn h).next (whole_of M.meaning self.new) }
     {
         self.inside.power();
         self.len = 0;
@@ -118,7 +118,7 @@ impl<M: SettingsMemory> Card<M> {
 
     // Writes the sheet of the settings in force, and gives its length.
     pub fn sheet(&self, output: &mut [u8]) -> Result<usize, Refusal>
-        ensures { (b : State) (h : History) → Keeps b h (whole_of meaning self.now) → (answer_of result, output.new) ≡ sheet_answer (in_force b h.events) output.old }
+        ensures { (b : State) (h : History) → Keeps b h (whole_of M.meaning self.now) → (answer_of result, output.new) ≡ sheet_answer (in_force b h.events) output.old }
     {
         match write_sheet(self.inside.settings(), output) {
             Ok(written) => Ok(written),

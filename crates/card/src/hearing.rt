@@ -30,7 +30,7 @@ fn hear_item<M: SettingsMemory>(
     ensures more { tally.old.written ≤ tally.new.written }
     ensures few { tally.new.written ≤ tally.old.written + most (item_of item.entry) }
     ensures one { tally.new.accepted + tally.new.down ≤ tally.old.accepted + tally.old.down + 1 }
-    ensures heard { (b : State) (s : Said) → Heard b s tally.old reply.old (state_of meaning inside.old) → Heard b (spoken b s (item_of item.entry)) tally.new reply.new (state_of meaning inside.new) }
+    ensures heard { (b : State) (s : Said) → Heard b s tally.old reply.old (state_of M.meaning inside.old) → Heard b (spoken b s (item_of item.entry)) tally.new reply.new (state_of M.meaning inside.new) }
 {
     let outcome = inside.obey(decode(item))?;
     let n = answer(item, outcome, inside.settings(), reply, tally.written);
@@ -58,7 +58,7 @@ pub(crate) fn hear_all<M: SettingsMemory>(
     ensures rest { drop place.new.at bytes.now ≡ (reading ending bytes.now 0).unread }
     ensures fits { tally.new.written ≤ length reply.new }
     ensures behind { drop tally.new.written reply.new ≡ drop tally.new.written reply.old }
-    ensures heard { (b : State) (h : List Event) → Follows b h (state_of meaning inside.old) → Heard b (told b (opened h) (items ending bytes.now)) tally.new reply.new (state_of meaning inside.new) }
+    ensures heard { (b : State) (h : List Event) → Follows b h (state_of M.meaning inside.old) → Heard b (told b (opened h) (items ending bytes.now)) tally.new reply.new (state_of M.meaning inside.new) }
 {
     while place.at < bytes.len() {
         match read_next(bytes, ending, place) {

@@ -20,7 +20,7 @@ impl<M: SettingsMemory> InForce<M> {
     // Brings sections into force, as they are kept or from the factory.
     fn load(&mut self, sections: Sections) -> Result<(), Refusal>
         ensures done { result ≡ Ok tt }
-        ensures after { state_of meaning self.new ≡ stepped (state_of meaning self.old) (loaded sections) }
+        ensures after { state_of M.meaning self.new ≡ stepped (state_of M.meaning self.old) (loaded sections) }
     {
         load_one(&self.memory, &mut self.settings, sections, Section::Port)?;
         load_one(
@@ -43,16 +43,16 @@ impl<M: SettingsMemory> InForce<M> {
     // Whether so many sections can be written.
     fn affords(&self, sections: usize) -> bool
         requires { sections ≤ 5 }
-        ensures { result ≡ affords (state_of meaning self.now) [] sections }
+        ensures { result ≡ affords (state_of M.meaning self.now) [] sections }
     {
         sections * self.memory.price() <= self.memory.left()
     }
 
     // Keeps or erases the strings of sections that the memory has writes left for.
     fn write(&mut self, sections: Sections, writing: Writing) -> Result<(), Refusal>
-        requires { how_many sections * (meaning self.old.memory).price ≤ (meaning self.old.memory).left }
+        requires { how_many sections * (M.meaning self.old.memory).price ≤ (M.meaning self.old.memory).left }
         ensures done { result ≡ Ok tt }
-        ensures after { state_of meaning self.new ≡ stepped (state_of meaning self.old) (writing_event writing sections) }
+        ensures after { state_of M.meaning self.new ≡ stepped (state_of M.meaning self.old) (writing_event writing sections) }
     {
         write_one(
             &mut self.memory,
@@ -96,7 +96,7 @@ impl<M: SettingsMemory> InForce<M> {
 impl<M: SettingsMemory> InForce<M> {
     // Every setting takes its kept value, or the factory value where none is kept.
     pub fn build(memory: M) -> InForce<M>
-        ensures { Follows (found (meaning memory)) (built ∷ []) (state_of meaning result) }
+        ensures { Follows (found (M.meaning memory)) (built ∷ []) (state_of M.meaning result) }
     {
         let mut made = InForce {
             memory,
@@ -108,21 +108,21 @@ impl<M: SettingsMemory> InForce<M> {
 
     // The same for settings that are in force already.
     pub fn power(&mut self)
-        ensures { (b : State) (h : List Event) → Follows b h (state_of meaning self.old) → Follows b (powered ∷ h) (state_of meaning self.new) }
+        ensures { (b : State) (h : List Event) → Follows b h (state_of M.meaning self.old) → Follows b (powered ∷ h) (state_of M.meaning self.new) }
     {
         let _ = self.load(Sections::all());
     }
 
     // Brings one setting into force.
     fn set(&mut self, setting: Setting)
-        ensures { state_of meaning self.new ≡ stepped (state_of meaning self.old) (set (change_of setting)) }
+        ensures { state_of M.meaning self.new ≡ stepped (state_of M.meaning self.old) (set (change_of setting)) }
     {
         self.settings.set(setting);
     }
 
     // Brings a rate into force, if there is one.
     fn set_rate(&mut self, message: Message, rate: Option<u8>)
-        ensures { state_of meaning self.new ≡ stepped_all (state_of meaning self.old) (map set (optional_rate message rate)) }
+        ensures { state_of M.meaning self.new ≡ stepped_all (state_of M.meaning self.old) (map set (optional_rate message rate)) }
     {
         if let Some(n) = rate {
             self.set(Setting::Rate(message, n));
@@ -130,7 +130,7 @@ impl<M: SettingsMemory> InForce<M> {
     }
 
     fn set_rates(&mut self, rates: Rates)
-        ensures { state_of meaning self.new ≡ stepped_all (state_of meaning self.old) (map set (four_rates rates.gga rates.gll rates.rmc rates.zda)) }
+        ensures { state_of M.meaning self.new ≡ stepped_all (state_of M.meaning self.old) (map set (four_rates rates.gga rates.gll rates.rmc rates.zda)) }
     {
         self.set_rate(Message::Zda, rates.zda);
         self.set_rate(Message::Rmc, rates.rmc);
@@ -142,8 +142,8 @@ impl<M: SettingsMemory> InForce<M> {
 impl<M: SettingsMemory> InForce<M> {
     // Writes sections if the writes left suffice for all of them.
     fn write_all(&mut self, sections: Sections, writing: Writing) -> Result<Outcome, Refusal>
-        ensures answer { result ≡ Ok (if affords (state_of meaning self.old) [] (how_many sections) then Done else TurnedDown) }
-        ensures after { state_of meaning self.new ≡ (if affords (state_of meaning self.old) [] (how_many sections) then stepped (state_of meaning self.old) (writing_event writing sections) else state_of meaning self.old) }
+        ensures answer { result ≡ Ok (if affords (state_of M.meaning self.old) [] (how_many sections) then Done else TurnedDown) }
+        ensures after { state_of M.meaning self.new ≡ (if affords (state_of M.meaning self.old) [] (how_many sections) then stepped (state_of M.meaning self.old) (writing_event writing sections) else state_of M.meaning self.old) }
     {
         if !self.affords(how_many(sections)) {
             return Ok(Outcome::TurnedDown);
@@ -154,8 +154,8 @@ impl<M: SettingsMemory> InForce<M> {
 
     // Erases all sections and brings the factory settings into force, if the writes left suffice.
     fn start_from_factory(&mut self) -> Result<Outcome, Refusal>
-        ensures answer { result ≡ Ok (if affords (state_of meaning self.old) [] 5 then Done else TurnedDown) }
-        ensures after { state_of meaning self.new ≡ (if affords (state_of meaning self.old) [] 5 then stepped (state_of meaning self.old) factoried else state_of meaning self.old) }
+        ensures answer { result ≡ Ok (if affords (state_of M.meaning self.old) [] 5 then Done else TurnedDown) }
+        ensures after { state_of M.meaning self.new ≡ (if affords (state_of M.meaning self.old) [] 5 then stepped (state_of M.meaning self.old) factoried else state_of M.meaning self.old) }
     {
         if !self.affords(5) {
             return Ok(Outcome::TurnedDown);
@@ -166,8 +166,8 @@ impl<M: SettingsMemory> InForce<M> {
     }
 
     fn start(&mut self, start: Start) -> Result<Outcome, Refusal>
-        ensures answer { result ≡ Ok (outcome (state_of meaning self.old) [] (asking (starts start))) }
-        ensures after { state_of meaning self.new ≡ stepped_all (state_of meaning self.old) (events_of (state_of meaning self.old) (asking (starts start))) }
+        ensures answer { result ≡ Ok (outcome (state_of M.meaning self.old) [] (asking (starts start))) }
+        ensures after { state_of M.meaning self.new ≡ stepped_all (state_of M.meaning self.old) (events_of (state_of M.meaning self.old) (asking (starts start))) }
     {
         match start {
             Start::Hot | Start::Warm | Start::Cold => {
@@ -179,8 +179,8 @@ impl<M: SettingsMemory> InForce<M> {
     }
 
     fn act(&mut self, command: Command) -> Result<Outcome, Refusal>
-        ensures answer { result ≡ Ok (outcome (state_of meaning self.old) [] (asking (command_of command))) }
-        ensures after { state_of meaning self.new ≡ stepped_all (state_of meaning self.old) (events_of (state_of meaning self.old) (asking (command_of command))) }
+        ensures answer { result ≡ Ok (outcome (state_of M.meaning self.old) [] (asking (command_of command))) }
+        ensures after { state_of M.meaning self.new ≡ stepped_all (state_of M.meaning self.old) (events_of (state_of M.meaning self.old) (asking (command_of command))) }
     {
         match command {
             Command::Set(setting) => self.set(setting),
@@ -197,7 +197,7 @@ impl<M: SettingsMemory> InForce<M> {
     // A request: one that is passed over or turned down changes nothing.
     pub fn obey(&mut self, request: Request) -> Result<Outcome, Refusal>
         ensures done { is_ok result ≡ true }
-        ensures obeyed { (b : State) (h : List Event) → Follows b h (state_of meaning self.old) → (result ≡ Ok (outcome b h (seen_request request))) × Follows b (heard b h (seen_request request)) (state_of meaning self.new) }
+        ensures obeyed { (b : State) (h : List Event) → Follows b h (state_of M.meaning self.old) → (result ≡ Ok (outcome b h (seen_request request))) × Follows b (heard b h (seen_request request)) (state_of M.meaning self.new) }
     {
         match request {
             Request::PassedOver => Ok(Outcome::PassedOver),

@@ -34,7 +34,7 @@ pub fn load_one<M: SettingsMemory>(
     section: Section,
 ) -> Result<(), Refusal>
     ensures done { result ≡ Ok tt }
-    ensures settings { settings_of settings.new ≡ chosen (in_section sections section) (kept_settings (strings_of (meaning memory.now))) (settings_of settings.old) }
+    ensures settings { settings_of settings.new ≡ chosen (in_section sections section) (kept_settings (strings_of (M.meaning memory.now))) (settings_of settings.old) }
     ensures counts { (m : Message) → count_of settings.new m ≡ (if in_section sections section (rate m) then 0 else count_of settings.old m) }
 {
     if sections.has(section) {
@@ -51,11 +51,11 @@ pub fn write_one<M: SettingsMemory>(
     section: Section,
     writing: Writing,
 ) -> Result<(), Refusal>
-    requires { one_if (names_section sections section) * (meaning memory.old).price ≤ (meaning memory.old).left }
+    requires { one_if (names_section sections section) * (M.meaning memory.old).price ≤ (M.meaning memory.old).left }
     ensures done { result ≡ Ok tt }
-    ensures strings { (t : Section) → strings_of (meaning memory.new) t ≡ with_filed writing (settings_of settings.now) sections section (strings_of (meaning memory.old)) t }
-    ensures left { (meaning memory.new).left ≡ paid sections section (meaning memory.old).left (meaning memory.old).price }
-    ensures price { (meaning memory.new).price ≡ (meaning memory.old).price }
+    ensures strings { (t : Section) → strings_of (M.meaning memory.new) t ≡ with_filed writing (settings_of settings.now) sections section (strings_of (M.meaning memory.old)) t }
+    ensures left { (M.meaning memory.new).left ≡ paid sections section (M.meaning memory.old).left (M.meaning memory.old).price }
+    ensures price { (M.meaning memory.new).price ≡ (M.meaning memory.old).price }
 {
     if sections.has(section) {
         match writing {

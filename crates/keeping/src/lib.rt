@@ -16,8 +16,8 @@ pub fn keep_section<M: SettingsMemory>(
     settings: &Settings,
     section: Section,
 ) -> Result<(), Refusal>
-    ensures answer { result ≡ keep_answer (meaning memory.old) (number section) (kept_string (values settings.now) section) }
-    ensures after { meaning memory.new ≡ keep_after (meaning memory.old) (number section) (kept_string (values settings.now) section) }
+    ensures answer { result ≡ keep_answer (M.meaning memory.old) (number section) (kept_string (values settings.now) section) }
+    ensures after { M.meaning memory.new ≡ keep_after (M.meaning memory.old) (number section) (kept_string (values settings.now) section) }
 {
     let mut buffer = [0; 56];
     let n = settings.kept_string(section, &mut buffer);
@@ -32,7 +32,7 @@ pub fn load_section<M: SettingsMemory>(
     section: Section,
 ) -> Result<(), Refusal>
     ensures done { result ≡ Ok tt }
-    ensures values { values settings.new ≡ loaded (values settings.old) section ((meaning memory.now).string (number section)) }
+    ensures values { values settings.new ≡ loaded (values settings.old) section ((M.meaning memory.now).string (number section)) }
     ensures counts { counts settings.new ≡ counts_loaded (counts settings.old) section }
 {
     let mut buffer = [0; 56];

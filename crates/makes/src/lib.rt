@@ -210,6 +210,7 @@ mod tests {
     fn answers(
         rt: &impl Abort,
         heap: Global,
+        what: &str,
         heads: &[[u8; 4]],
         tail: usize,
         length: Option<usize>,
@@ -219,9 +220,9 @@ mod tests {
         let mut image = slots(heap, heads, tail)?;
         let journal = Journal::new(image.as_mut_slice());
         let mut out = [0u8; 56];
-        assert_eq!(rt; journal.left(), left);
-        assert_eq!(rt; journal.read(4, &mut out), Ok(length));
-        assert_eq!(rt; out[0], first);
+        assert_eq!(rt; journal.left(), left, "{what}");
+        assert_eq!(rt; journal.read(4, &mut out), Ok(length), "{what}");
+        assert_eq!(rt; out[0], first, "{what}");
         Ok(())
     }
 
@@ -230,35 +231,20 @@ mod tests {
         let heap = rt.alloc();
         let free = [255, 255, 255, 255];
         let keep = [1, 4, 16, 0];
-        answers(&rt, heap, &[], 0, None, 0, 0).note("no bytes")?;
-        answers(&rt, heap, &[], 63, None, 0, 0).note("a tail alone")?;
-        answers(&rt, heap, &[keep, free], 63, Some(16), 1, 1).note("a tail behind slots")?;
-        answers(&rt, heap, &[keep, keep, free], 0, Some(16), 2, 1).note("the latest counts")?;
-        answers(&rt, heap, &[keep, [1, 0, 1, 0], free], 0, Some(16), 1, 1).note(
-            "another section behind it",
-        )?;
-        answers(&rt, heap, &[keep, [0, 4, 0, 0], free], 0, None, 0, 1).note("erased")?;
-        answers(&rt, heap, &[keep, [0, 4, 1, 0], free], 0, Some(16), 1, 1).note(
-            "an erase with a length",
-        )?;
-        answers(&rt, heap, &[keep, [1, 4, 57, 0], free], 0, Some(16), 1, 1).note("a keep of 57")?;
-        answers(&rt, heap, &[keep, [1, 4, 56, 0]], 0, Some(56), 2, 0).note("a keep of 56")?;
-        answers(&rt, heap, &[keep, [1, 4, 16, 1]], 0, Some(16), 1, 0).note("byte 3 not 0")?;
-        answers(&rt, heap, &[keep, [2, 4, 16, 0]], 0, Some(16), 1, 0).note("another first byte")?;
-        answers(&rt, heap, &[keep, [1, 2, 16, 0]], 0, Some(16), 1, 0).note("an unknown section")?;
-        answers(
-            &rt,
-            heap,
-            &[free, free, keep, free, free],
-            0,
-            Some(16),
-            3,
-            2,
-        )
-        .note("a gap of free slots")?;
-        answers(&rt, heap, &[free, free, [7, 7, 7, 7], free], 0, None, 0, 1).note(
-            "the last one not free is malformed",
-        )
+        answers(&rt, heap, "no bytes", &[], 0, None, 0, 0)?;
+        answers(&rt, heap, "a tail alone", &[], 63, None, 0, 0)?;
+        answers(&rt, heap, "a tail behind slots", &[keep, free], 63, Some(16), 1, 1)?;
+        answers(&rt, heap, "the latest counts", &[keep, keep, free], 0, Some(16), 2, 1)?;
+        answers(&rt, heap, "another section behind it", &[keep, [1, 0, 1, 0], free], 0, Some(16), 1, 1)?;
+        answers(&rt, heap, "erased", &[keep, [0, 4, 0, 0], free], 0, None, 0, 1)?;
+        answers(&rt, heap, "an erase with a length", &[keep, [0, 4, 1, 0], free], 0, Some(16), 1, 1)?;
+        answers(&rt, heap, "a keep of 57", &[keep, [1, 4, 57, 0], free], 0, Some(16), 1, 1)?;
+        answers(&rt, heap, "a keep of 56", &[keep, [1, 4, 56, 0]], 0, Some(56), 2, 0)?;
+        answers(&rt, heap, "byte 3 not 0", &[keep, [1, 4, 16, 1]], 0, Some(16), 1, 0)?;
+        answers(&rt, heap, "another first byte", &[keep, [2, 4, 16, 0]], 0, Some(16), 1, 0)?;
+        answers(&rt, heap, "an unknown section", &[keep, [1, 2, 16, 0]], 0, Some(16), 1, 0)?;
+        answers(&rt, heap, "a gap of free slots", &[free, free, keep, free, free], 0, Some(16), 3, 2)?;
+        answers(&rt, heap, "the last one not free is malformed", &[free, free, [7, 7, 7, 7], free], 0, None, 0, 1)
     }
 
     // Journals about the limit: a slot that begins at byte 65,536 is none.
