@@ -233,18 +233,126 @@ mod tests {
         let keep = [1, 4, 16, 0];
         answers(&rt, heap, "no bytes", &[], 0, None, 0, 0)?;
         answers(&rt, heap, "a tail alone", &[], 63, None, 0, 0)?;
-        answers(&rt, heap, "a tail behind slots", &[keep, free], 63, Some(16), 1, 1)?;
-        answers(&rt, heap, "the latest counts", &[keep, keep, free], 0, Some(16), 2, 1)?;
-        answers(&rt, heap, "another section behind it", &[keep, [1, 0, 1, 0], free], 0, Some(16), 1, 1)?;
-        answers(&rt, heap, "erased", &[keep, [0, 4, 0, 0], free], 0, None, 0, 1)?;
-        answers(&rt, heap, "an erase with a length", &[keep, [0, 4, 1, 0], free], 0, Some(16), 1, 1)?;
-        answers(&rt, heap, "a keep of 57", &[keep, [1, 4, 57, 0], free], 0, Some(16), 1, 1)?;
-        answers(&rt, heap, "a keep of 56", &[keep, [1, 4, 56, 0]], 0, Some(56), 2, 0)?;
-        answers(&rt, heap, "byte 3 not 0", &[keep, [1, 4, 16, 1]], 0, Some(16), 1, 0)?;
-        answers(&rt, heap, "another first byte", &[keep, [2, 4, 16, 0]], 0, Some(16), 1, 0)?;
-        answers(&rt, heap, "an unknown section", &[keep, [1, 2, 16, 0]], 0, Some(16), 1, 0)?;
-        answers(&rt, heap, "a gap of free slots", &[free, free, keep, free, free], 0, Some(16), 3, 2)?;
-        answers(&rt, heap, "the last one not free is malformed", &[free, free, [7, 7, 7, 7], free], 0, None, 0, 1)
+        answers(
+            &rt,
+            heap,
+            "a tail behind slots",
+            &[keep, free],
+            63,
+            Some(16),
+            1,
+            1,
+        )?;
+        answers(
+            &rt,
+            heap,
+            "the latest counts",
+            &[keep, keep, free],
+            0,
+            Some(16),
+            2,
+            1,
+        )?;
+        answers(
+            &rt,
+            heap,
+            "another section behind it",
+            &[keep, [1, 0, 1, 0], free],
+            0,
+            Some(16),
+            1,
+            1,
+        )?;
+        answers(
+            &rt,
+            heap,
+            "erased",
+            &[keep, [0, 4, 0, 0], free],
+            0,
+            None,
+            0,
+            1,
+        )?;
+        answers(
+            &rt,
+            heap,
+            "an erase with a length",
+            &[keep, [0, 4, 1, 0], free],
+            0,
+            Some(16),
+            1,
+            1,
+        )?;
+        answers(
+            &rt,
+            heap,
+            "a keep of 57",
+            &[keep, [1, 4, 57, 0], free],
+            0,
+            Some(16),
+            1,
+            1,
+        )?;
+        answers(
+            &rt,
+            heap,
+            "a keep of 56",
+            &[keep, [1, 4, 56, 0]],
+            0,
+            Some(56),
+            2,
+            0,
+        )?;
+        answers(
+            &rt,
+            heap,
+            "byte 3 not 0",
+            &[keep, [1, 4, 16, 1]],
+            0,
+            Some(16),
+            1,
+            0,
+        )?;
+        answers(
+            &rt,
+            heap,
+            "another first byte",
+            &[keep, [2, 4, 16, 0]],
+            0,
+            Some(16),
+            1,
+            0,
+        )?;
+        answers(
+            &rt,
+            heap,
+            "an unknown section",
+            &[keep, [1, 2, 16, 0]],
+            0,
+            Some(16),
+            1,
+            0,
+        )?;
+        answers(
+            &rt,
+            heap,
+            "a gap of free slots",
+            &[free, free, keep, free, free],
+            0,
+            Some(16),
+            3,
+            2,
+        )?;
+        answers(
+            &rt,
+            heap,
+            "the last one not free is malformed",
+            &[free, free, [7, 7, 7, 7], free],
+            0,
+            None,
+            0,
+            1,
+        )
     }
 
     // Journals about the limit: a slot that begins at byte 65,536 is none.
@@ -289,7 +397,8 @@ mod tests {
             load_section(memory, &mut loaded, Section::Navigation),
             Ok(())
         );
-        assert_eq!(rt; loaded.messages.entries[1].rate, 2);
+        let rate = loaded.messages.entries[1].rate;
+        assert_eq!(rt; rate, 2);
         assert_eq!(rt; loaded.interval.milliseconds, 500);
         assert_eq!(rt; memory.erase(3), Ok(()));
         assert_eq!(rt;

@@ -9,8 +9,8 @@ keep-requires g c =
     let f = few c.args.ending (take (n - 0) c.join.new.into) at (n - at) c.hear_all.ensures.rest in
     omega arith
 
-pub invariant-of-self-2 : goal.invariant-of-self-2
-invariant-of-self-2 g c =
+pub invariant_of-self-2 : goal.invariant_of-self-2
+invariant_of-self-2 g c =
     let n = c.args.self.now.len + length c.args.bytes.now in
     let at = c.hear_all.new.place.at in
     let f = few c.args.ending (take (n - 0) c.join.new.into) at (n - at) c.hear_all.ensures.rest in

@@ -2,8 +2,8 @@ use Rattle.std.proofs.Common.{refl, arith, rules}
 use Rattle.std.proofs.lemmas.Slice.{overwrites}
 use Rattle.messages.proofs.line.Line.append.Goals as goal
 
-pub invariant-of-self : goal.invariant-of-self
-invariant-of-self c = (search (rules, overwrites), (omega arith, tt))
+pub invariant_of-self : goal.invariant_of-self
+invariant_of-self c = (search (rules, overwrites), (omega arith, tt))
 
 pub returns : goal.returns
 returns c = record { text = search (rules, overwrites); len = refl }
