@@ -3,7 +3,7 @@ use Rattle.std.proofs.lemmas.Slice.{overwrites}
 use Rattle.sheets.proofs.text.Text.append.Goals as goal
 
 pub invariant_of-self : goal.invariant_of-self
-invariant_of-self c = (search (rules, overwrites), (omega arith, tt))
+invariant_of-self c = record { whole = search (rules, overwrites); within = omega arith }
 
 pub returns : goal.returns
 returns c = record { text = search (rules, overwrites); len = refl }
