@@ -1,4 +1,6 @@
 // Battery memory: an image of 320 bytes, in which a write costs nothing.
+#![tactic(auto)]
+
 ghost use Rattle.std.specs.Prelude.{◌≡◌, ◌+◌, ◌<◌, ◌≤◌, not, length, is_ok, Ok, slice_set, refl};
 ghost use Rattle.std.specs.Option.{option_map};
 ghost use Rattle.memory.specs.Memory.{known, keepable, refuse, with_string, keep_answer, keep_after, erase_answer, erase_after};

@@ -1,5 +1,5 @@
 -- What the check answers.
-use Rattle.std.specs.Prelude.{ℕ, Bool, cond, ◌&&◌, Ok, Err, Result, nat_le}
+use Rattle.std.specs.Prelude.{ℕ, cond, ◌&&◌, Ok, Err, Result, nat_le}
 use Rattle.std.specs.Option.{option_map}
 use Rattle.fix.specs.declared.Date.{Date}
 use Rattle.fix.specs.declared.Time.{Time}

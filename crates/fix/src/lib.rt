@@ -1,4 +1,6 @@
 // A fix as it is handed over, and the check that makes a fix in range of it.
+#![tactic(auto)]
+
 ghost use Rattle.std.specs.Prelude.{◌≡◌, ◌^◌, ◌<◌, true, false, MatchResult, nat_le};
 ghost use Rattle.std.specs.Option.{option_map};
 ghost use Rattle.fix.specs.Calendar.{leap, month_length};

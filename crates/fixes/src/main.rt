@@ -1,4 +1,6 @@
 // Prints the messages of the fixes on standard input.
+#![tactic(auto)]
+
 mod print;
 mod typed;
 

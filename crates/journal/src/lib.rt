@@ -1,4 +1,6 @@
 // Flash journal: slots over the caller's memory, of which each write spends one.
+#![tactic(auto)]
+
 ghost use Rattle.std.specs.Prelude.{◌≡◌, refl};
 ghost use Rattle.memory.specs.Memory.{keep_answer, keep_after, erase_answer, erase_after};
 ghost use Rattle.journal.specs.Limits.{journal_limits};

@@ -1,4 +1,6 @@
 // Settings kept in a memory of any make, and loaded from it.
+#![tactic(auto)]
+
 ghost use Rattle.std.specs.Prelude.{◌≡◌, Ok};
 ghost use Rattle.memory.specs.Memory.{keep_answer, keep_after};
 ghost use Rattle.settings.specs.Changes.{counts_loaded};

@@ -1,4 +1,6 @@
 // Prints what a dumped image of a settings memory holds, section by section.
+#![tactic(auto)]
+
 mod asked;
 mod problem;
 

@@ -1,4 +1,5 @@
 // Examples of what is read on the line, and of what the writers refuse.
+#![tactic(auto)]
 
 #[cfg(test)]
 mod tests {

@@ -1,4 +1,6 @@
 // Lists the frames and sentences in a capture of the line, from standard input.
+#![tactic(auto)]
+
 mod held;
 
 ghost use Rattle.std.specs.Prelude.{◌≡◌, ◌-◌, ◌≤◌, length, drop, IfOk};

@@ -1,4 +1,6 @@
 // What a settings memory holds, as lines to read.
+#![tactic(auto)]
+
 ghost use Rattle.std.specs.Prelude.{◌≡◌, replicate, if◌then◌else◌, Some, None, slice_index_or};
 ghost use Rattle.std.specs.Option.{option_map};
 ghost use Rattle.listing.specs.Words.{section_word};

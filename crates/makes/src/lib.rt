@@ -1,4 +1,6 @@
 // Each make of settings memory at work, as its caller sees it.
+#![tactic(auto)]
+
 ghost use Rattle.std.specs.Prelude.{◌≡◌, true};
 ghost use Rattle.memory.specs.Memory.{known, keepable, keep_answer, keep_after};
 ghost use Rattle.battery.specs.Places.{battery_meaning, keep_image as battery_after};
@@ -206,24 +208,17 @@ mod tests {
         Ok(image)
     }
 
-    // What such a journal answers for section 4, and the writes that it has left.
+    // What such a journal answers for section 4: the length of its string, the string's first byte and the writes left.
     fn answers(
-        rt: &impl Abort,
         heap: Global,
-        what: &str,
         heads: &[[u8; 4]],
         tail: usize,
-        length: Option<usize>,
-        first: u8,
-        left: usize,
-    ) -> Result<(), Fail> {
+    ) -> Result<(Result<Option<usize>, Refusal>, u8, usize), Fail> {
         let mut image = slots(heap, heads, tail)?;
         let journal = Journal::new(image.as_mut_slice());
         let mut out = [0u8; 56];
-        assert_eq!(rt; journal.left(), left, "{what}");
-        assert_eq!(rt; journal.read(4, &mut out), Ok(length), "{what}");
-        assert_eq!(rt; out[0], first, "{what}");
-        Ok(())
+        let length = journal.read(4, &mut out);
+        Ok((length, out[0], journal.left()))
     }
 
     #[test]
@@ -231,128 +226,69 @@ mod tests {
         let heap = rt.alloc();
         let free = [255, 255, 255, 255];
         let keep = [1, 4, 16, 0];
-        answers(&rt, heap, "no bytes", &[], 0, None, 0, 0)?;
-        answers(&rt, heap, "a tail alone", &[], 63, None, 0, 0)?;
-        answers(
-            &rt,
-            heap,
-            "a tail behind slots",
-            &[keep, free],
-            63,
-            Some(16),
-            1,
-            1,
-        )?;
-        answers(
-            &rt,
-            heap,
-            "the latest counts",
-            &[keep, keep, free],
-            0,
-            Some(16),
-            2,
-            1,
-        )?;
-        answers(
-            &rt,
-            heap,
-            "another section behind it",
-            &[keep, [1, 0, 1, 0], free],
-            0,
-            Some(16),
-            1,
-            1,
-        )?;
-        answers(
-            &rt,
-            heap,
-            "erased",
-            &[keep, [0, 4, 0, 0], free],
-            0,
-            None,
-            0,
-            1,
-        )?;
-        answers(
-            &rt,
-            heap,
-            "an erase with a length",
-            &[keep, [0, 4, 1, 0], free],
-            0,
-            Some(16),
-            1,
-            1,
-        )?;
-        answers(
-            &rt,
-            heap,
-            "a keep of 57",
-            &[keep, [1, 4, 57, 0], free],
-            0,
-            Some(16),
-            1,
-            1,
-        )?;
-        answers(
-            &rt,
-            heap,
-            "a keep of 56",
-            &[keep, [1, 4, 56, 0]],
-            0,
-            Some(56),
-            2,
-            0,
-        )?;
-        answers(
-            &rt,
-            heap,
-            "byte 3 not 0",
-            &[keep, [1, 4, 16, 1]],
-            0,
-            Some(16),
-            1,
-            0,
-        )?;
-        answers(
-            &rt,
-            heap,
-            "another first byte",
-            &[keep, [2, 4, 16, 0]],
-            0,
-            Some(16),
-            1,
-            0,
-        )?;
-        answers(
-            &rt,
-            heap,
-            "an unknown section",
-            &[keep, [1, 2, 16, 0]],
-            0,
-            Some(16),
-            1,
-            0,
-        )?;
-        answers(
-            &rt,
-            heap,
-            "a gap of free slots",
-            &[free, free, keep, free, free],
-            0,
-            Some(16),
-            3,
-            2,
-        )?;
-        answers(
-            &rt,
-            heap,
-            "the last one not free is malformed",
-            &[free, free, [7, 7, 7, 7], free],
-            0,
-            None,
-            0,
-            1,
-        )
+        assert_eq!(rt; answers(heap, &[], 0)?, (Ok(None), 0, 0), "no bytes");
+        assert_eq!(rt; answers(heap, &[], 63)?, (Ok(None), 0, 0), "a tail alone");
+        assert_eq!(rt;
+            answers(heap, &[keep, free], 63)?,
+            (Ok(Some(16)), 1, 1),
+            "a tail behind slots"
+        );
+        assert_eq!(rt;
+            answers(heap, &[keep, keep, free], 0)?,
+            (Ok(Some(16)), 2, 1),
+            "the latest counts"
+        );
+        assert_eq!(rt;
+            answers(heap, &[keep, [1, 0, 1, 0], free], 0)?,
+            (Ok(Some(16)), 1, 1),
+            "another section behind it"
+        );
+        assert_eq!(rt;
+            answers(heap, &[keep, [0, 4, 0, 0], free], 0)?,
+            (Ok(None), 0, 1),
+            "erased"
+        );
+        assert_eq!(rt;
+            answers(heap, &[keep, [0, 4, 1, 0], free], 0)?,
+            (Ok(Some(16)), 1, 1),
+            "an erase with a length"
+        );
+        assert_eq!(rt;
+            answers(heap, &[keep, [1, 4, 57, 0], free], 0)?,
+            (Ok(Some(16)), 1, 1),
+            "a keep of 57"
+        );
+        assert_eq!(rt;
+            answers(heap, &[keep, [1, 4, 56, 0]], 0)?,
+            (Ok(Some(56)), 2, 0),
+            "a keep of 56"
+        );
+        assert_eq!(rt;
+            answers(heap, &[keep, [1, 4, 16, 1]], 0)?,
+            (Ok(Some(16)), 1, 0),
+            "byte 3 not 0"
+        );
+        assert_eq!(rt;
+            answers(heap, &[keep, [2, 4, 16, 0]], 0)?,
+            (Ok(Some(16)), 1, 0),
+            "another first byte"
+        );
+        assert_eq!(rt;
+            answers(heap, &[keep, [1, 2, 16, 0]], 0)?,
+            (Ok(Some(16)), 1, 0),
+            "an unknown section"
+        );
+        assert_eq!(rt;
+            answers(heap, &[free, free, keep, free, free], 0)?,
+            (Ok(Some(16)), 3, 2),
+            "a gap of free slots"
+        );
+        assert_eq!(rt;
+            answers(heap, &[free, free, [7, 7, 7, 7], free], 0)?,
+            (Ok(None), 0, 1),
+            "the last one not free is malformed"
+        );
+        Ok(())
     }
 
     // Journals about the limit: a slot that begins at byte 65,536 is none.

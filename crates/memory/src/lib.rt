@@ -1,4 +1,6 @@
 // The settings memory: what every make of it answers and leaves.
+#![tactic(auto)]
+
 ghost use Rattle.std.specs.Prelude.{◌≡◌, length};
 ghost use Rattle.memory.specs.Memory.{Meaning, Limits, known, number, refusal, keep_answer, keep_after, erase_answer, erase_after, read_answer, read_out, string_answer, lent};
 

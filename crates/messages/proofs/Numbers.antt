@@ -1,5 +1,5 @@
 -- Digits, one after another.
-use Rattle.std.proofs.Common.{◌≡◌, ℕ, zero, suc, ◌+◌, ◌-◌, ◌*◌, ◌/◌, ◌%◌, ◌^◌, ◌<◌, ◌≤◌, List, [], ◌∷◌, ◌++◌, length, take, drop, decimal, fold, sym, refl, ap, ◌∙◌, ap₂, append_assoc, append-nil, mod-lt, pow-suc, div-add-mod', add-one, arith, length-append}
+use Rattle.std.proofs.Common.{◌≡◌, ℕ, zero, suc, ◌+◌, ◌-◌, ◌*◌, ◌/◌, ◌%◌, ◌^◌, ◌<◌, ◌≤◌, List, [], ◌∷◌, ◌++◌, length, take, drop, decimal, fold, sym, refl, ap, ◌∙◌, ap₂, append_assoc, append-nil, mod-lt, pow-suc, div-add-mod', arith, length-append}
 use native.Mathlib.Nat.{pow-zero}
 use Rattle.std.proofs.lemmas.Fmt.{decimal_step, decimal_injective}
 use Rattle.std.proofs.lemmas.List.{length_push, take_at, drop_at}

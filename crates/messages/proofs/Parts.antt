@@ -1,5 +1,5 @@
 -- Each field has inner bytes only, and its numbers can be read back from it.
-use Rattle.std.proofs.Common.{◌≡◌, ℕ, zero, suc, ◌+◌, ◌/◌, ◌%◌, ◌^◌, ◌<◌, ◌≤◌, Bool, true, false, cond, eqb, List, [], ◌∷◌, ◌++◌, length, get_or, drop, ℤ, pos, negsuc, nat_abs, Some, None, codes, decimal, Option, sym, refl, ap, ◌∙◌, arith}
+use Rattle.std.proofs.Common.{◌≡◌, ℕ, ◌+◌, ◌/◌, ◌%◌, ◌^◌, ◌<◌, ◌≤◌, Bool, true, false, cond, List, [], ◌∷◌, ◌++◌, length, get_or, drop, ℤ, pos, nat_abs, Some, None, codes, decimal, Option, sym, refl, ap, ◌∙◌, arith}
 use lib.Signed.{lt_z}
 use Rattle.std.specs.List.{AllByRecursion as All}
 use Rattle.std.specs.Option.{option_map}
@@ -12,7 +12,7 @@ use Rattle.fix.specs.declared.checked.CheckedDate.{CheckedDate}
 use Rattle.fix.specs.declared.checked.CheckedTime.{CheckedTime}
 use Rattle.fix.specs.declared.checked.CheckedPosition.{CheckedPosition}
 use Rattle.fix.specs.Calendar.{month_length}
-use Rattle.fix.specs.Checks.{time_of, date_of}
+use Rattle.fix.specs.Checks.{time_of}
 use Rattle.messages.specs.Decimals.{padded, pointed}
 use Rattle.messages.specs.Fields.{time_text, date_text, angle_text, side_text, metres_text}
 use Rattle.messages.specs.Bodies.{told, whether, latitude_text, north_or_south, longitude_text, east_or_west}

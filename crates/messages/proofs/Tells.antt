@@ -1,5 +1,5 @@
 -- The laws of the five messages.
-use Rattle.std.proofs.Common.{◌≡◌, ℕ, ◌/◌, ◌^◌, ◌<◌, ◌≤◌, List, [], ◌∷◌, length, get_or, take, drop, is_some, Some, None, Err, codes, Option, refl, ap, arith, length-take}
+use Rattle.std.proofs.Common.{◌≡◌, ℕ, ◌^◌, ◌<◌, ◌≤◌, List, [], length, get_or, take, drop, is_some, Some, None, Err, codes, Option, refl, ap, arith, length-take}
 use Rattle.std.specs.List.{AllByRecursion as All}
 use Rattle.numbers.specs.Bytes.{bytes4}
 use Rattle.wire.specs.Frames.{frame}
@@ -9,7 +9,7 @@ use Rattle.wire.specs.declared.refusal.Refusal.TheVariants.{Body}
 use Rattle.std.proofs.lemmas.Bool.{cond-true}
 use Rattle.fix.specs.declared.checked.CheckedPosition.{CheckedPosition}
 use Rattle.fix.specs.declared.checked.CheckedFix.{CheckedFix}
-use Rattle.messages.specs.Decimals.{padded, pointed}
+use Rattle.messages.specs.Decimals.{pointed}
 use Rattle.messages.specs.Fields.{metres_text}
 use Rattle.messages.specs.Bodies.{zda_fields, gll_fields, rmc_fields, gga_fields, zda_body, gll_body, rmc_body, gga_body, latitude_text, north_or_south, longitude_text, east_or_west}
 use Rattle.messages.specs.declared.line.Line.{Line}

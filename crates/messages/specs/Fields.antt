@@ -1,5 +1,5 @@
 -- The fields of the sentences.
-use Rattle.std.specs.Prelude.{ℕ, ◌/◌, ◌%◌, cond, List, [], ◌∷◌, ◌++◌, ℤ, pos, codes, int_lt, unsigned_abs}
+use Rattle.std.specs.Prelude.{ℕ, ◌/◌, ◌%◌, cond, List, [], ◌++◌, ℤ, pos, codes, int_lt, unsigned_abs}
 use Rattle.fix.specs.declared.checked.CheckedDate.{CheckedDate}
 use Rattle.fix.specs.declared.checked.CheckedTime.{CheckedTime}
 use Rattle.messages.specs.Decimals.{padded, pointed}

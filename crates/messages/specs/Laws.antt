@@ -1,5 +1,5 @@
 -- What holds of every message that is written.
-use Rattle.std.specs.Prelude.{◌≡◌, ℕ, ◌+◌, ◌%◌, ◌≤◌, Bool, true, List, ◌++◌, length, ℤ, is_some, Option}
+use Rattle.std.specs.Prelude.{◌≡◌, ℕ, ◌+◌, ◌%◌, ◌≤◌, Bool, true, List, length, ℤ, is_some, Option}
 use Rattle.std.specs.Option.{option_map}
 use Rattle.wire.specs.Frames.{frame, lawful_length}
 use Rattle.wire.specs.Sentences.{sentence, lawful_body}

@@ -1,4 +1,6 @@
 // The messages that go out at a fix.
+#![tactic(auto)]
+
 mod address;
 mod fields;
 mod gga;

@@ -1,4 +1,6 @@
 // The protocol's names of its frames.
+#![tactic(auto)]
+
 ghost use Rattle.std.specs.Prelude.{◌≡◌};
 ghost use Rattle.std.specs.Option.{option_map};
 ghost use Rattle.names.specs.Names.{message_name, nav_name, tim_name, rxm_name, ack_name, cfg_name, msg_name, mon_name, aid_name};

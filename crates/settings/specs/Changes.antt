@@ -1,5 +1,5 @@
 -- What is in force after a setting is set, a section is loaded, or a fix is counted.
-use Rattle.std.specs.Prelude.{ℕ, List, set, replicate, slice_index, slice_set}
+use Rattle.std.specs.Prelude.{ℕ, List, replicate, slice_index, slice_set}
 use Rattle.settings.specs.declared.names.Section.{Section}
 use Rattle.settings.specs.declared.names.Section.TheVariants.{Port, Messages, Navigation, Pulse, Group}
 use Rattle.settings.specs.declared.values.Setting.{Setting}

@@ -1,4 +1,6 @@
 // The card's settings: their ranges, their factory values and the strings that keep them.
+#![tactic(auto)]
+
 mod changes;
 mod names;
 mod sections;

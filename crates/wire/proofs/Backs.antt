@@ -4,7 +4,7 @@ use Rattle.wire.specs.declared.reading.Ending.{Ending}
 use Rattle.wire.specs.Items.{Item, form, size, lawful_item}
 use Rattle.wire.specs.Tries.{good}
 use Rattle.wire.specs.Reading.{reading}
-use Rattle.wire.specs.Laws.{Begins, Back}
+use Rattle.wire.specs.Laws.{Back}
 use Rattle.wire.proofs.Judgement.{sizes, begins_good}
 use Rattle.wire.proofs.Steps.{onward_is, some_size}
 

@@ -1,17 +1,15 @@
 -- Reading in pieces, and behind noise.
-use Rattle.std.proofs.Common.{◌≡◌, ℕ, zero, suc, ◌+◌, ◌-◌, ◌<◌, ◌≤◌, List, [], ◌∷◌, ◌++◌, map, length, drop, sym, refl, ap, ◌∙◌, subst, append_assoc, add-zero, add_assoc, arith}
-use Rattle.std.specs.List.{flat_map}
+use Rattle.std.proofs.Common.{◌≡◌, ℕ, zero, suc, ◌+◌, ◌-◌, ◌≤◌, List, [], ◌∷◌, ◌++◌, map, length, sym, refl, ap, ◌∙◌, append_assoc, add_assoc, arith}
 use Rattle.std.proofs.lemmas.List.{append-nil, append_cancel_left, length-drop}
 use Rattle.wire.specs.declared.reading.Ending.{Ending}
 use Rattle.wire.specs.declared.reading.Ending.TheVariants.{More, Pause}
 use Rattle.wire.specs.Items.{Item, size}
 use Rattle.wire.specs.Tries.{Try, good, unfinished, failed, ended, try_of}
 use Rattle.wire.specs.Reading.{try_by, Placed, found_at, found_from, unread_at, unread_from}
-use Rattle.wire.specs.Laws.{Begins, NoneBegins, found_in_pieces, unread_in_pieces, together, moved}
+use Rattle.wire.specs.Laws.{NoneBegins, found_in_pieces, unread_in_pieces, together, moved}
 use Rattle.wire.proofs.Rules.{Stays, Fits}
 use Rattle.wire.proofs.Judgement.{stays, fits, good_begins}
 use Rattle.wire.proofs.Finding.{suffix}
-use Rattle.wire.proofs.Steps.{some_size}
 
 unread_cut_at : (x : ℕ) (a b : List ℕ) (s : Try) → Stays s (try_of (x ∷ a ++ b)) → Fits s (length (x ∷ a)) → ((n : ℕ) → n ≤ length a → unread_from More n (a ++ b) ≡ unread_from More 0 (unread_from More n a ++ b)) → unread_at (try_of (x ∷ a ++ b)) (x ∷ a ++ b) (λ n. unread_from More n (a ++ b)) ≡ unread_from More 0 (unread_at s (x ∷ a) (λ n. unread_from More n a) ++ b)
 unread_cut_at x a b (good y) e f ih = rw e (ih (size y - 1) (omega arith))

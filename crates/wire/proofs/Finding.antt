@@ -1,13 +1,13 @@
 -- What reading finds, place by place.
-use Rattle.std.proofs.Common.{◌≡◌, ℕ, zero, suc, ◌+◌, ◌-◌, ◌<◌, ◌≤◌, ◌⊎◌, List, [], ◌∷◌, ◌++◌, length, drop, sym, refl, ap, ◌∙◌, subst, inl, inr, ⊎_elim, arith, length-drop}
+use Rattle.std.proofs.Common.{◌≡◌, ℕ, zero, suc, ◌+◌, ◌-◌, ◌<◌, ◌≤◌, ◌⊎◌, List, [], ◌∷◌, length, drop, sym, refl, ap, ◌∙◌, inl, inr, ⊎_elim, arith, length-drop}
 use Rattle.std.proofs.lemmas.List.{drop-drop}
 use Rattle.std.proofs.lemmas.Bool.{cases_lt}
 use Rattle.wire.specs.declared.reading.Ending.{Ending}
 use Rattle.wire.specs.declared.reading.Ending.TheVariants.{More, Pause}
 use Rattle.wire.specs.Items.{Item, size}
 use Rattle.wire.specs.Tries.{Try, good, unfinished, failed, ended, try_of}
-use Rattle.wire.specs.Reading.{try_by, Placed, found_at, found_from, unread_at, unread_from}
-use Rattle.wire.specs.Laws.{Begins, NoneBegins, FirstGood, Finds, Waits, NoneWaits, NoneWaitsOutside}
+use Rattle.wire.specs.Reading.{try_by, found_at, found_from, unread_at, unread_from}
+use Rattle.wire.specs.Laws.{NoneBegins, Finds, Waits, NoneWaits, NoneWaitsOutside}
 use Rattle.wire.proofs.Steps.{some_size}
 use Rattle.wire.proofs.Judgement.{good_begins, begins_good, by_good, by_fits, by_few}
 

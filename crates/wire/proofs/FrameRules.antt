@@ -1,11 +1,11 @@
 -- The rules of a frame.
-use Rattle.std.proofs.Common.{◌≡◌, ℕ, ◌+◌, ◌-◌, ◌*◌, ◌/◌, ◌%◌, ◌^◌, ◌<◌, ◌≤◌, Bool, true, false, cond, ◌&&◌, eqb, ltb, leb, List, [], ◌∷◌, ◌++◌, length, get_or, take, drop, sym, refl, ap, ◌∙◌, subst, append_assoc, arith, length-append, length-drop}
-use Rattle.std.proofs.lemmas.List.{get_or-append-add, take-append-le, drop-append-le, take-append-drop, drop-drop, drop_more, length-take-le, take_at}
-use Rattle.std.proofs.lemmas.Bool.{le-leb, lt-ltb, eq-eqb, eqb-true, leb-true, and_from, and_parts}
+use Rattle.std.proofs.Common.{◌≡◌, ℕ, ◌+◌, ◌*◌, ◌%◌, ◌^◌, ◌<◌, ◌≤◌, true, ◌&&◌, eqb, leb, List, [], ◌∷◌, ◌++◌, length, get_or, take, drop, refl, ap, ◌∙◌, arith, length-drop}
+use Rattle.std.proofs.lemmas.List.{take-append-le, drop-append-le, length-take-le}
+use Rattle.std.proofs.lemmas.Bool.{eqb-true, leb-true, and_parts}
 use Rattle.numbers.specs.Bytes.{bytes4}
 use Rattle.wire.specs.Frames.{frame_sum, lawful_length}
-use Rattle.wire.specs.Items.{Item, frame_item, sentence_item, form, size, lawful_item}
-use Rattle.wire.specs.Tries.{Try, good, unfinished, failed, judged, stand, length_of, payload_of, sum_stands, whole_frame, frame_from_sum, frame_from_length, frame_try}
+use Rattle.wire.specs.Items.{frame_item}
+use Rattle.wire.specs.Tries.{Try, good, unfinished, failed, stand, length_of, payload_of, sum_stands, whole_frame, frame_from_sum, frame_from_length, frame_try}
 use Rattle.wire.proofs.Rules.{same_byte, Stays, Fits, Few, judged_stays, judged_has}
 
 module _ (bs more : List ℕ) where

@@ -1,8 +1,8 @@
 -- Chains of rules: what is decided stays decided with more bytes behind it, a good item's bytes are there, and its rules are kept.
-use Rattle.std.proofs.Common.{◌≡◌, ℕ, ◌+◌, ◌<◌, ◌≤◌, Bool, true, false, cond, ◌&&◌, ltb, List, [], ◌∷◌, ◌++◌, length, get_or, sym, refl, ap, ◌∙◌, subst, ⊎_elim, arith, length-append}
+use Rattle.std.proofs.Common.{◌≡◌, ℕ, ◌<◌, ◌≤◌, Bool, true, false, cond, ltb, List, ◌++◌, length, get_or, refl, ap, ⊎_elim, arith, length-append}
 use Rattle.std.proofs.lemmas.List.{get_or_append_left}
-use Rattle.std.proofs.lemmas.Bool.{lt-ltb, le-ltb, ltb-true, ltb-false, cases_Bool}
-use Rattle.wire.specs.Items.{Item, size}
+use Rattle.std.proofs.lemmas.Bool.{lt-ltb, ltb-true, ltb-false, cases_Bool}
+use Rattle.wire.specs.Items.{size}
 use Rattle.wire.specs.Tries.{Try, good, unfinished, failed, judged, ended}
 
 -- a byte is the same with more behind it

@@ -1,12 +1,12 @@
 -- A good sentence's bytes are its written form, and the written form is judged good.
-use Rattle.std.proofs.Common.{◌≡◌, ℕ, ◌+◌, ◌-◌, ◌*◌, ◌/◌, ◌%◌, ◌^◌, ◌<◌, ◌≤◌, Bool, true, false, cond, not, ◌&&◌, ◌||◌, eqb, ltb, leb, List, [], ◌∷◌, ◌++◌, length, get_or, take, drop, fold, sym, refl, ap, ◌∙◌, subst, ⊎_elim, append_assoc, one-add, arith, length-append, length-drop, length-take}
+use Rattle.std.proofs.Common.{◌≡◌, ℕ, ◌+◌, ◌-◌, ◌/◌, ◌%◌, ◌^◌, ◌<◌, ◌≤◌, Bool, true, false, cond, not, ◌&&◌, eqb, ltb, leb, List, [], ◌∷◌, ◌++◌, length, get_or, take, drop, fold, sym, refl, ap, ◌∙◌, subst, ⊎_elim, append_assoc, one-add, arith, length-append, length-drop, length-take}
 use lib.Bits.{bit_xor, xor_lt}
 use Rattle.std.specs.List.{prefix_len}
 use Rattle.std.proofs.lemmas.List.{get_or-append-add, take-append-drop, drop-drop, drop_more, length-take-le, take_at}
-use Rattle.std.proofs.lemmas.Bool.{le-leb, lt-ltb, le-ltb, ltb-true, ltb-false, eq-eqb, eqb-true, leb-true, and_from, and_parts, or_left, or_right, cases_lt, cases_Bool}
+use Rattle.std.proofs.lemmas.Bool.{le-leb, lt-ltb, le-ltb, ltb-true, eq-eqb, eqb-true, leb-true, and_from, and_parts, or_left, or_right, cases_lt, cases_Bool}
 use Rattle.wire.specs.Sentences.{is_body, lawful_body, checksum, hex_digit, ending, sentence}
-use Rattle.wire.specs.Items.{Item, sentence_item, form, lawful_item}
-use Rattle.wire.specs.Tries.{Try, good, unfinished, failed, judged, is_digit, star_of, body_to, digits_stand, from_lf, from_cr, from_low, from_high, from_star, ended, sentence_try}
+use Rattle.wire.specs.Items.{sentence_item, form}
+use Rattle.wire.specs.Tries.{Try, good, unfinished, failed, is_digit, star_of, body_to, digits_stand, from_lf, from_cr, from_low, from_high, from_star, ended, sentence_try}
 use Rattle.wire.specs.Laws.{Begins}
 use Rattle.wire.proofs.Rules.{either_has}
 use Rattle.wire.proofs.SentenceRules.{shape, Whole, star_has, cut_more}

@@ -1,12 +1,12 @@
 -- The rules of a sentence.
-use Rattle.std.proofs.Common.{◌≡◌, ℕ, ◌+◌, ◌-◌, ◌*◌, ◌/◌, ◌%◌, ◌<◌, ◌≤◌, Bool, true, false, cond, ◌&&◌, eqb, ltb, List, [], ◌∷◌, ◌++◌, length, get_or, take, drop, sym, refl, ap, ◌∙◌, subst, ⊎_elim, arith, length-append, length-drop, length-take}
+use Rattle.std.proofs.Common.{◌≡◌, ℕ, ◌+◌, ◌-◌, ◌/◌, ◌%◌, ◌<◌, ◌≤◌, Bool, true, false, cond, ◌&&◌, eqb, ltb, List, [], ◌∷◌, ◌++◌, length, get_or, take, drop, sym, refl, ap, ◌∙◌, subst, ⊎_elim, arith, length-append, length-drop, length-take}
 use lib.Seq.{take-append-add}
 use Rattle.std.specs.List.{prefix_len}
 use Rattle.std.proofs.lemmas.List.{take-append-le, drop-append-le, length-take-le}
-use Rattle.std.proofs.lemmas.Bool.{lt-ltb, le-ltb, ltb-true, ltb-false, eqb-true, and_parts, cases_Bool, cases_lt}
+use Rattle.std.proofs.lemmas.Bool.{lt-ltb, le-ltb, ltb-true, eqb-true, and_parts, cases_lt}
 use Rattle.wire.specs.Sentences.{is_body, checksum, hex_digit}
-use Rattle.wire.specs.Items.{Item, sentence_item, size}
-use Rattle.wire.specs.Tries.{Try, good, unfinished, failed, judged, is_digit, star_of, body_to, digits_stand, from_lf, from_cr, from_low, from_high, from_star, ended, sentence_try}
+use Rattle.wire.specs.Items.{sentence_item}
+use Rattle.wire.specs.Tries.{Try, good, unfinished, failed, is_digit, star_of, body_to, digits_stand, from_lf, from_cr, from_low, from_high, from_star, ended, sentence_try}
 use Rattle.wire.proofs.Rules.{same_byte, Stays, Fits, Few, judged_stays, stays_self, stays_ended, judged_has, either_has}
 
 leading_step : (b : Bool) (m n k : ℕ) → (m < k → n ≡ m) → cond b (1 + m) 0 < 1 + k → cond b (1 + n) 0 ≡ cond b (1 + m) 0

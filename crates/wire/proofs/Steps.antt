@@ -1,10 +1,10 @@
 -- Reading that stands at a place: what one try makes of it.
-use Rattle.std.proofs.Common.{◌≡◌, ℕ, zero, suc, ◌+◌, ◌-◌, ◌<◌, ◌≤◌, List, [], ◌∷◌, length, get_or, drop, sym, refl, ap, ◌∙◌, add-zero, arith}
+use Rattle.std.proofs.Common.{◌≡◌, ℕ, zero, suc, ◌+◌, ◌-◌, ◌<◌, ◌≤◌, List, [], ◌∷◌, length, drop, sym, refl, ap, ◌∙◌, add-zero, arith}
 use Rattle.std.proofs.lemmas.List.{drop-drop, drop_more, drop_all}
 use Rattle.wire.specs.declared.reading.Ending.{Ending}
 use Rattle.wire.specs.Items.{Item, frame_item, sentence_item, size}
 use Rattle.wire.specs.Tries.{Try, good, unfinished, failed}
-use Rattle.wire.specs.Reading.{try_by, found_at, found_from, unread_at, unread_from, Placed, Reading, reading, onward}
+use Rattle.wire.specs.Reading.{try_by, found_at, found_from, unread_at, unread_from, reading, onward}
 
 pub some_size : (x : Item) → 1 ≤ size x
 some_size (frame_item class id payload) = omega arith

@@ -1,6 +1,5 @@
 -- What the code's answers stand for.
 use Rattle.std.specs.Prelude.{ℕ, ◌+◌, ◌<◌, ◌≤◌, max, List, [], ◌∷◌, length, drop}
-use Rattle.wire.specs.declared.item.Frame.{Frame}
 use Rattle.wire.specs.declared.item.Item.{Item as Part}
 use Rattle.wire.specs.declared.item.Item.TheVariants.{Frame as FramePart, Sentence as SentencePart}
 use Rattle.wire.specs.declared.tries.Verdict.{Verdict}

@@ -1,5 +1,5 @@
 -- What becomes of a try at the bytes from a lead byte on: each rule is judged at the byte that it needs.
-use Rattle.std.specs.Prelude.{ℕ, ◌+◌, ◌-◌, ◌/◌, ◌%◌, Bool, true, cond, ◌&&◌, ◌||◌, List, [], ◌∷◌, length, take, drop, ◌==◌, nat_le, nat_lt, slice_index, slice_range}
+use Rattle.std.specs.Prelude.{ℕ, ◌+◌, ◌/◌, ◌%◌, Bool, true, cond, ◌&&◌, ◌||◌, List, [], ◌∷◌, length, take, drop, ◌==◌, nat_le, nat_lt, slice_index, slice_range}
 use Rattle.std.specs.List.{prefix_len}
 use Rattle.numbers.specs.Bytes.{bytes4, u2_at}
 use Rattle.wire.specs.Frames.{frame_sum, lawful_length}

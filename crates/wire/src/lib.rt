@@ -1,4 +1,6 @@
 // What stands on the serial line: writing it and reading it.
+#![tactic(auto)]
+
 mod frame;
 mod item;
 mod laws;

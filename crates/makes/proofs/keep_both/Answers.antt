@@ -1,4 +1,4 @@
-use Rattle.std.proofs.Common.{◌≡◌, ℕ, true, eqb, ltb, leb, length, Some, Err, sym, refl, ap, ◌∙◌, arith}
+use Rattle.std.proofs.Common.{◌≡◌, true, eqb, ltb, leb, length, Some, Err, refl, ap, ◌∙◌, arith}
 use Rattle.std.proofs.lemmas.Bool.{and_parts, leb-true, le-ltb, lt-ltb, eq-eqb, cond-true}
 use Rattle.memory.specs.declared.Refusal.TheVariants.{NoWritesLeft}
 use Rattle.memory.specs.Memory.{known, keep_answer}

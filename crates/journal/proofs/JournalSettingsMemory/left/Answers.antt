@@ -1,6 +1,5 @@
 use Rattle.std.proofs.Common.{sym, subst}
 use Rattle.journal.specs.Latest.{FreeBehind}
-use Rattle.journal.specs.Slots.{writes_left}
 use Rattle.journal.proofs.Search.{free_behind}
 use Rattle.journal.proofs.JournalSettingsMemory.left.Goals as goal
 

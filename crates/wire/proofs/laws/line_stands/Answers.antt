@@ -1,4 +1,4 @@
-use Rattle.std.proofs.Common.{◌≡◌, ℕ, ◌+◌, ◌-◌, ◌<◌, ◌≤◌, ◌⊎◌, List, [], length, drop, refl, ap, ◌∙◌, inl, inr, ⊎_elim, arith, length-drop}
+use Rattle.std.proofs.Common.{◌≡◌, ℕ, ◌+◌, List, [], length, drop, refl, ap, ◌∙◌, inl, inr, ⊎_elim, arith, length-drop}
 use Rattle.wire.specs.declared.reading.Ending.TheVariants.{More, Pause}
 use Rattle.wire.specs.Reading.{unread_from}
 use Rattle.wire.specs.Laws.{Read, Waits, Line}
