@@ -73,7 +73,7 @@ fn says(rt: &impl Abort, message: Message, fix: &Fix, systems: u8, line: &str) -
     assert!(rt; size <= 80);
     assert!(rt; len == size + 2);
     assert!(rt; &out[0..size] == text);
-    assert!(rt; &out[size..size + 2] == b"\r\n");
+    assert!(rt; &out[size..size + 2] == b"\r\n".as_slice());
     for b in &out[size + 2..82] {
         assert!(rt; *b == 0xee);
     }
@@ -252,7 +252,7 @@ fn time_utc(rt: HostRuntime) -> Result<(), Fail> {
     assert!(rt; out[34] == 0xee);
     assert!(rt;
         &out[0..34]
-            == b"\xba\xce\x18\x00\x01\x10\x02\x01\x00\x00\x00\x00\x80\x3f\x01\x02\x03\x04\x00\x00\xdb\x07\x07\x02\x17\x35\x10\x07\x02\x03\x32\x0c\x78\x93"
+            == b"\xba\xce\x18\x00\x01\x10\x02\x01\x00\x00\x00\x00\x80\x3f\x01\x02\x03\x04\x00\x00\xdb\x07\x07\x02\x17\x35\x10\x07\x02\x03\x32\x0c\x78\x93".as_slice()
     );
     let mut short = [0xee; 33];
     let refusal = write_time_utc(&fix, systems, &mut short)
