@@ -4,8 +4,9 @@
 usage: python3 tools/rename.py [--list]
 
 Run once, at the top of the repository, after the toolchain's own script. What is renamed: names with a dash or an inner
-capital that specs/ and proofs/ define, and names given by 'as' where a file imports them. Names of the code, of goals and
-of their parts, strings and comments keep their spelling. With --list it prints the old and new names and writes nothing.
+capital that specs/ and proofs/ define, and names given by 'as' where a file imports them. Goals, strings and comments keep
+their spelling, and so does the code, which has no such names. It writes nothing where two names would become one. With
+--list it prints the old and new names and writes nothing.
 """
 
 import glob
@@ -16,8 +17,17 @@ WORD = r"[A-Za-z_][A-Za-z0-9_'₀-₉]*(?:-[A-Za-z0-9_'₀-₉]+)*"
 HEAD = re.compile(r"\s*(?:let )?(?:abbrev |unfoldable )?(?:pub )?(" + WORD + r") : ")
 KIND = re.compile(r"\s*(?:pub )?(record|data) (" + WORD + r")")
 ALIAS = re.compile(r" as (" + WORD + r")")
-# lemmas named after words of the library, as it names its own: the outer function, a dash, the inner one
-SPECIAL = {"getD-cut": "get_or-cut", "get_d_part": "get_or-part", "getD-over-from": "get_or-over_from", "length-over-from": "length-over_from", "drop-over-from": "drop-over_from", "unread-at": "unread_there"}
+# Names that the rule below would not give. Lemmas named after words of the library go as it names its own: the outer
+# function, a dash, the inner one ('get_d_part' is what the toolchain's script made of 'getD-part'). 'unread-at' would fall
+# together with 'unreadAt'.
+SPECIAL = {
+    "getD-cut": "get_or-cut",
+    "get_d_part": "get_or-part",
+    "getD-over-from": "get_or-over_from",
+    "length-over-from": "length-over_from",
+    "drop-over-from": "drop-over_from",
+    "unread-at": "unread_there",
+}
 
 
 def files():
@@ -69,7 +79,8 @@ def defined():
 
 def new_names():
     names = {}
-    for name, is_type in sorted(defined().items()):
+    found = defined()
+    for name, is_type in sorted(found.items()):
         if name not in SPECIAL and not ("-" in name or (is_type and "_" in name) or re.search(r"[a-z][A-Z]", name)):
             continue
         if name in SPECIAL.values():
@@ -77,6 +88,10 @@ def new_names():
         new = SPECIAL.get(name) or (camel(name) if is_type else snake(name))
         if new != name:
             names[name] = new
+    kept = [name for name in found if name not in names]
+    twice = sorted(n for n in names.values() if n in kept or list(names.values()).count(n) > 1)
+    if twice:
+        raise SystemExit("rename: two names would become " + ", ".join(twice))
     return names
 
 

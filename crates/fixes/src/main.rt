@@ -9,6 +9,7 @@ use fix::{Fix, check};
 use print::{print_messages, print_refusal};
 use settings::Systems;
 use std::io::{BufRead, BufReader};
+use std::process::ExitCode;
 use std::str::from_utf8;
 use std::{env, io};
 use typed::{Fault, read_fix, systems};
@@ -100,10 +101,13 @@ fn run(rt: &HostRuntime) -> anyhow::Result<()> {
     Ok(())
 }
 
-fn main(rt: HostRuntime) -> anyhow::Result<()> {
-    let outcome = run(&rt);
-    if let Err(e) = &outcome {
-        eprintln!(rt; "fixes: {e}")?;
+// An error is one line on standard error, and status 1.
+fn main(rt: HostRuntime) -> ExitCode {
+    match run(&rt) {
+        Ok(()) => ExitCode::SUCCESS,
+        Err(e) => {
+            let _ = eprintln!(rt; "fixes: {e}");
+            ExitCode::FAILURE
+        }
     }
-    outcome
 }

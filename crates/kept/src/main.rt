@@ -12,6 +12,7 @@ use memory::SettingsMemory;
 use problem::Problem;
 use std::alloc::Global;
 use std::io::Read;
+use std::process::ExitCode;
 use std::{env, fs};
 
 const HELP: &str = "usage: kept battery [FILE]
@@ -66,10 +67,13 @@ fn run(rt: &HostRuntime) -> Result<(), Problem> {
     Ok(())
 }
 
-fn main(rt: HostRuntime) -> Result<(), Problem> {
-    let result = run(&rt);
-    if let Err(problem) = &result {
-        let _ = eprintln!(rt; "kept: {problem}");
+// An error is one line on standard error, and status 1.
+fn main(rt: HostRuntime) -> ExitCode {
+    match run(&rt) {
+        Ok(()) => ExitCode::SUCCESS,
+        Err(problem) => {
+            let _ = eprintln!(rt; "kept: {problem}");
+            ExitCode::FAILURE
+        }
     }
-    result
 }

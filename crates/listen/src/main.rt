@@ -11,6 +11,7 @@ use anyhow::anyhow;
 use held::Held;
 use names::message_name;
 use std::io::Read;
+use std::process::ExitCode;
 use std::{env, fmt, io};
 use wire::{Ending, Found, Frame, Item, Place, read_next};
 
@@ -180,10 +181,13 @@ fn finish(rt: &HostRuntime, unread: &[u8], held: Held) -> io::Result<()> {
     println!(rt; "stray bytes: {stray}")
 }
 
-fn main(rt: HostRuntime) -> anyhow::Result<()> {
-    let outcome = run(&rt);
-    if let Err(e) = &outcome {
-        eprintln!(rt; "listen: {e}")?;
+// An error is one line on standard error, and status 1.
+fn main(rt: HostRuntime) -> ExitCode {
+    match run(&rt) {
+        Ok(()) => ExitCode::SUCCESS,
+        Err(e) => {
+            let _ = eprintln!(rt; "listen: {e}");
+            ExitCode::FAILURE
+        }
     }
-    outcome
 }
