@@ -34,6 +34,11 @@ mapped_same : {A B : Type 0} (f g : A → B) → ((x : A) → f x ≡ g x) → (
 mapped_same f g h None = refl
 mapped_same f g h (Some x) = ap Some (h x)
 
+-- no field before the first
+pub at_first : {A : Type 0} (o : Option (List A)) → o ≡ option_map (λ more. more) o
+at_first None = refl
+at_first (Some x) = refl
+
 -- a fifteenth field is one too many
 fifteen : (front : List (Option ℕ)) → length front ≡ 14 → (o : Option ℕ) (r : Option (List (Option ℕ))) → rates_request (option_map (λ more. front ++ more) (option_map (λ more. o ∷ more) r)) ≡ wrong
 fifteen front n o None = refl

@@ -1,4 +1,6 @@
 // What a frame or a sentence asks of the card.
+#![tactic(auto)]
+
 mod command;
 mod fields;
 mod frames;

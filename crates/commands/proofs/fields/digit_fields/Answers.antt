@@ -1,7 +1,8 @@
 use Rattle.std.proofs.Common.{◌≡◌, cond, length, sym, ap, ◌∙◌, arith}
 use Rattle.std.proofs.lemmas.List.{length-set, length-take-le}
 use Rattle.commands.specs.Commands.{rates_request}
-use Rattle.commands.proofs.DigitFields.{sized, next_field, no_field, too_many, all_fields}
+use Rattle.commands.specs.Fields.{digit_fields}
+use Rattle.commands.proofs.DigitFields.{sized, at_first, next_field, no_field, too_many, all_fields}
 use Rattle.commands.proofs.fields.digit_fields.Goals as goal
 use Rattle.commands.proofs.fields.digit_fields.Goals.{then-is_some, else-is_some, then-rest-at-ne44-via-then-rest-at-ne44, then-rest-at-ne44-via-else-rest-at-ne44+then-count-eq14}
 
@@ -19,6 +20,9 @@ returns-then-rest-at-ne44 c =
         | then-rest-at-ne44-via-else-rest-at-ne44+then-count-eq14 w ↦ too_many rest digits c.loop-at.count c.loop-at.at so_far within w.if-rest-at-ne44.false (length-take-le c.loop-at.count digits (omega arith) ∙ w.if-count-eq14.true)
       ];
     }
+
+pub loop-at-init : goal.loop-at-init
+loop-at-init c = (omega arith, c.told-digits, at_first (digit_fields c.args.rest.now))
 
 pub loop-at-preserved : goal.loop-at-preserved
 loop-at-preserved c =

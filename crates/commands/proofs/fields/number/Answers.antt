@@ -3,7 +3,7 @@ use Rattle.commands.proofs.Digits.{some_there, one_more, stopped, all_read}
 use Rattle.commands.proofs.fields.number.Goals as goal
 
 pub returns-in_err-number : goal.returns-in_err-number
-returns-in_err-number c = c.from-residual.ensures ∙ stopped c.args.field.now c.loop-b.b-index c.loop-b.invariant.2 c.loop-b-test.true c.in_err-number.ensures
+returns-in_err-number c = c.from_residual.ensures ∙ stopped c.args.field.now c.loop-b.b-index c.loop-b.invariant.2 c.loop-b-test.true c.in_err-number.ensures
 
 pub loop-b-preserved : goal.loop-b-preserved
 loop-b-preserved c =
