@@ -1,4 +1,6 @@
 // The sheet: two lines that tell the settings, their names and their values.
+#![tactic(auto)]
+
 mod refusal;
 mod sheet;
 mod text;
