@@ -1,5 +1,5 @@
 -- Bytes that are read in two parts.
-use Rattle.std.proofs.Common.{◌≡◌, ℕ, zero, suc, ◌+◌, ◌-◌, ◌<◌, ◌≤◌, List, [], ◌∷◌, ◌++◌, map, length, drop, sym, refl, ap, ◌∙◌, append_assoc, arith}
+use Rattle.std.proofs.Common.{◌≡◌, ℕ, zero, suc, ◌+◌, ◌-◌, ◌≤◌, List, [], ◌∷◌, ◌++◌, map, length, sym, refl, ap, ◌∙◌, arith}
 use Rattle.wire.specs.declared.reading.Ending.{Ending}
 use Rattle.wire.specs.declared.reading.Ending.TheVariants.{More, Pause}
 use Rattle.wire.specs.Items.{Item, size}
@@ -10,7 +10,7 @@ use Rattle.wire.proofs.Judgement.{stays, fits}
 use Rattle.wire.proofs.Cutting.{quiet_moved}
 use Rattle.rule.specs.Calls.{items}
 use Rattle.rule.specs.Talking.{Noise}
-use Rattle.rule.proofs.Written.{items_moved, items_anywhere}
+use Rattle.rule.proofs.Written.{items_moved}
 
 -- what is found, without its places
 abbrev items_at : Try → (ℕ → List Item) → List Item

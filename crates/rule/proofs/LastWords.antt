@@ -3,9 +3,9 @@ use Rattle.std.proofs.Common.{◌≡◌, ℕ, Bool, true, false, cond, List, [],
 use Rattle.settings.specs.declared.names.Section.{Section}
 use Rattle.commands.specs.Settings.{Name, baud, rate, interval, systems, pulse, group, Configuration}
 use Rattle.commands.specs.Commands.{names_section}
-use Rattle.rule.specs.Events.{Event, built, powered, restarted, factoried, fixed, set, saved, cleared, loaded, when, factory_settings, touches, names, files}
-use Rattle.rule.specs.Words.{State, chosen, in_force, kept, named, Follows}
-use Rattle.rule.specs.LastWord.{NoneOf, Latest, SomeLatest, Agree, files_it, LastWord}
+use Rattle.rule.specs.Events.{Event, built, powered, restarted, factoried, fixed, set, saved, cleared, loaded, when, touches, names, files}
+use Rattle.rule.specs.Words.{State, chosen, in_force, kept, Follows}
+use Rattle.rule.specs.LastWord.{NoneOf, SomeLatest, Agree, files_it, LastWord}
 
 agree_trans : (n : Name) (c d e : Configuration) → Agree n c d → Agree n d e → Agree n c e
 agree_trans baud c d e p q = p ∙ q

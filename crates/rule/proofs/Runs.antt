@@ -1,9 +1,9 @@
 -- Lists of calls, one behind the other.
-use Rattle.std.proofs.Common.{◌≡◌, List, [], ◌∷◌, ◌++◌, map, sym, refl, ap, ◌∙◌}
+use Rattle.std.proofs.Common.{◌≡◌, List, [], ◌∷◌, ◌++◌, map, refl, ap, ◌∙◌}
 use mathlib.Core.List.{map-append}
 use Rattle.rule.specs.Words.{State}
-use Rattle.rule.specs.Calls.{History, Turn}
-use Rattle.rule.specs.Runs.{Call, turn, turns, after, Given, given_by, given}
+use Rattle.rule.specs.Calls.{History}
+use Rattle.rule.specs.Runs.{Call, turn, turns, after, given_by, given}
 
 module _ (b : State) where
   pub turns_append : (h : History) (cs ds : List Call) → turns b h (cs ++ ds) ≡ turns b h cs ++ turns b (after b h cs) ds

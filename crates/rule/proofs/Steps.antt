@@ -1,15 +1,14 @@
 -- A card that follows some events follows one more after its step.
-use Rattle.std.proofs.Common.{◌≡◌, ℕ, zero, suc, ◌+◌, ◌-◌, ◌*◌, ◌%◌, ◌<◌, ◌≤◌, Bool, true, false, cond, eqb, leb, List, [], ◌∷◌, ◌++◌, map, is_some, Some, None, Option, unwrap_or, sym, refl, ap, ◌∙◌, subst, mod-eq_of_lt, arith, ne_eqb}
+use Rattle.std.proofs.Common.{◌≡◌, ℕ, zero, suc, ◌+◌, ◌-◌, ◌*◌, ◌%◌, ◌<◌, ◌≤◌, Bool, true, false, cond, eqb, leb, List, [], ◌∷◌, ◌++◌, is_some, unwrap_or, sym, refl, ap, ◌∙◌, subst, mod-eq_of_lt, arith, ne_eqb}
 use native.Mathlib.Nat.{zero-mod, mod-add-mod}
 use Rattle.settings.specs.declared.names.Message.{Message}
 use Rattle.settings.specs.Entries.{next_count}
-use Rattle.commands.specs.declared.command.Start.{Start}
 use Rattle.commands.specs.declared.command.Start.TheVariants.{Hot, Warm, Cold, Factory}
 use Rattle.commands.specs.declared.command.Outcome.TheVariants.{TurnedDown}
-use Rattle.commands.specs.Settings.{Configuration, rate}
+use Rattle.commands.specs.Settings.{rate}
 use Rattle.commands.specs.Commands.{Command, sets, saves, clears, loads, starts, asks, Request, passed_over, wrong, command}
 use Rattle.rule.specs.Events.{Event, when, factoried, saved, cleared, touches, names, files, writes, is_fix}
-use Rattle.rule.specs.Words.{State, chosen, in_force, kept, left, since, residue, named, Follows}
+use Rattle.rule.specs.Words.{State, chosen, in_force, kept, since, residue, named, Follows}
 use Rattle.rule.specs.Judging.{judged, affords, fulfilled, outcome, heard}
 use Rattle.rule.specs.Steps.{stepped, stepped_all, events_of}
 

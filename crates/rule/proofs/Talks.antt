@@ -6,15 +6,15 @@ use Rattle.wire.specs.declared.reading.Ending.TheVariants.{More, Pause}
 use Rattle.wire.specs.Items.{Item}
 use Rattle.wire.specs.Reading.{reading}
 use Rattle.wire.proofs.Finding.{none_unread}
-use Rattle.commands.specs.Commands.{Request, request_of}
+use Rattle.commands.specs.Commands.{request_of}
 use Rattle.rule.specs.Events.{Event}
 use Rattle.rule.specs.Words.{State, in_force, named, Follows}
-use Rattle.rule.specs.Judging.{outcome, heard}
+use Rattle.rule.specs.Judging.{outcome}
 use Rattle.rule.specs.Steps.{stepped_all, events_of}
 use Rattle.rule.specs.Saying.{Said, opened, spoken, told, written, answers_to, accepts, turns_down}
 use Rattle.rule.specs.Calls.{History, Turn, Waiting, refused, hears, said_to, items}
-use Rattle.rule.specs.Runs.{Call, send, pause, power, turn, turns, after, Given, given_by, given, whole_by}
-use Rattle.rule.specs.Talking.{SameState, SameCard, Alike, Noise, Speech, accepted_in, down_in, speech, pauses, sends, If, Sends, SendsAndPauses, sent}
+use Rattle.rule.specs.Runs.{Call, send, pause, power, turns, after, given_by, given, whole_by}
+use Rattle.rule.specs.Talking.{SameState, SameCard, Alike, Noise, Speech, speech, If, Sends, SendsAndPauses, sent}
 use Rattle.rule.proofs.Steps.{requests}
 use Rattle.rule.proofs.Written.{written_append}
 use Rattle.rule.proofs.Cuts.{items_cut, rest_cut, items_quiet, none_waits, still_waits}

@@ -8,7 +8,7 @@ use Rattle.settings.specs.Strings.{pulse_string}
 use Rattle.settings.specs.Values.{factory}
 use Rattle.keeping.specs.Loaded.{loaded as loaded_values}
 use Rattle.commands.specs.declared.command.Sections.{Sections}
-use Rattle.commands.specs.Settings.{Name, rate, index, section_of, Configuration, configuration, Change, baud_to, rate_to, interval_to, systems_to, pulse_to, group_to, changes}
+use Rattle.commands.specs.Settings.{Name, index, section_of, Configuration, configuration, Change, baud_to, rate_to, interval_to, systems_to, pulse_to, group_to, changes}
 use Rattle.commands.specs.Commands.{names_section}
 
 -- what happens: the build, a power, a start 0 to 2, a factory start, an accepted fix,

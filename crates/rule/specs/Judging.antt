@@ -1,7 +1,6 @@
 -- What becomes of a command: it is judged by the events so far, and accepted it is some events more.
-use Rattle.std.specs.Prelude.{ℕ, ◌*◌, Bool, cond, List, [], ◌∷◌, ◌++◌, map, is_some, Some, None, Option, nat_le}
+use Rattle.std.specs.Prelude.{ℕ, ◌*◌, Bool, cond, List, [], ◌∷◌, ◌++◌, map, is_some, Some, Option, nat_le}
 use Rattle.std.specs.Option.{unwrap_or}
-use Rattle.commands.specs.declared.command.Start.{Start}
 use Rattle.commands.specs.declared.command.Start.TheVariants.{Hot, Warm, Cold, Factory}
 use Rattle.commands.specs.declared.command.Outcome.{Outcome}
 use Rattle.commands.specs.declared.command.Outcome.TheVariants.{PassedOver, TurnedDown, Done, Told}

@@ -1,7 +1,7 @@
 -- The law over every list of calls.
 use Rattle.std.specs.Prelude.{◌≡◌, ℕ, ◌+◌, ◌<◌, List, length, take, slice_index_or}
 use Rattle.memory.specs.Memory.{Meaning}
-use Rattle.rule.specs.Words.{State, found}
+use Rattle.rule.specs.Words.{found}
 use Rattle.rule.specs.LastWord.{LastWord}
 use Rattle.rule.specs.Calls.{start, Whole, Keeps}
 use Rattle.rule.specs.Runs.{Call, after, Given, given}

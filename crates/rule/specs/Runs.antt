@@ -1,5 +1,5 @@
 -- Whole lists of calls.
-use Rattle.std.specs.Prelude.{◌≡◌, ℕ, List, [], ◌∷◌, map, Result}
+use Rattle.std.specs.Prelude.{ℕ, List, [], ◌∷◌, map, Result}
 use Rattle.rule.specs.Words.{State, named}
 use Rattle.rule.specs.Saying.{written}
 use Rattle.rule.specs.Calls.{History, Turn, Whole, send_turn, pause_turn, power_turn}

@@ -1,5 +1,5 @@
 -- One event more, as a step from what a card has.
-use Rattle.std.specs.Prelude.{ℕ, ◌-◌, ◌*◌, cond, List, [], ◌∷◌}
+use Rattle.std.specs.Prelude.{◌-◌, ◌*◌, cond, List, [], ◌∷◌}
 use Rattle.std.specs.Option.{unwrap_or}
 use Rattle.settings.specs.Entries.{next_count}
 use Rattle.commands.specs.Settings.{rate}

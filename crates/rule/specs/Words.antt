@@ -1,5 +1,5 @@
 -- What is in force, what is kept and what is counted after some events, newest first.
-use Rattle.std.specs.Prelude.{◌≡◌, ℕ, ◌+◌, ◌-◌, ◌*◌, ◌%◌, ◌<◌, Bool, true, false, cond, ◌&&◌, List, [], ◌∷◌, ◌++◌, is_some, Some, ◌==◌}
+use Rattle.std.specs.Prelude.{◌≡◌, ℕ, ◌+◌, ◌-◌, ◌*◌, ◌%◌, Bool, cond, List, [], ◌∷◌, ◌==◌}
 use Rattle.std.specs.Option.{unwrap_or}
 use Rattle.settings.specs.declared.names.Section.{Section}
 use Rattle.settings.specs.declared.names.Message.{Message}
