@@ -1,5 +1,5 @@
 -- Five sections, one after the other.
-use Rattle.std.proofs.Common.{◌≡◌, ℕ, ◌+◌, ◌-◌, ◌*◌, ◌≤◌, Bool, true, false, cond, ◌&&◌, List, Option, unwrap_or, sym, refl, ap, ◌∙◌, add-mul, arith}
+use Rattle.std.proofs.Common.{◌≡◌, ℕ, ◌+◌, ◌-◌, ◌*◌, Bool, true, false, cond, List, Option, unwrap_or, sym, refl, ap, ◌∙◌, add-mul, arith}
 use Rattle.settings.specs.declared.names.Section.{Section}
 use Rattle.settings.specs.declared.names.Section.TheVariants.{Port, Messages, Navigation, Pulse, Group}
 use Rattle.settings.specs.declared.names.Message.{Message}

@@ -1,5 +1,4 @@
 pub mod Loads
-pub mod Writes
 pub mod Five
 pub mod Sets
 pub mod Obeys

@@ -1,5 +1,5 @@
 -- A factory start, and a request for a card that follows some events.
-use Rattle.std.proofs.Common.{◌≡◌, ℕ, true, cond, List, [], get_or, replicate, None, Ok, Result, sym, refl, ap, ◌∙◌, subst}
+use Rattle.std.proofs.Common.{◌≡◌, List, [], get_or, replicate, None, Ok, Result, sym, refl, ap, ◌∙◌, subst}
 use Rattle.memory.specs.declared.Refusal.{Refusal}
 use Rattle.settings.specs.declared.names.Section.{Section}
 use Rattle.settings.specs.declared.names.Section.TheVariants.{Port, Messages, Navigation, Pulse, Group}

@@ -1,5 +1,5 @@
 -- A setting that is set, by its name.
-use Rattle.std.proofs.Common.{◌≡◌, ℕ, ◌+◌, ◌-◌, ◌*◌, ◌<◌, ◌≤◌, Bool, true, false, cond, eqb, List, length, get_or, set, sym, refl, ap, ◌∙◌, ⊎_elim, arith, ne_eqb}
+use Rattle.std.proofs.Common.{◌≡◌, ℕ, ◌+◌, ◌-◌, ◌*◌, ◌<◌, ◌≤◌, Bool, false, cond, eqb, List, length, get_or, set, sym, ap, ◌∙◌, ⊎_elim, arith, ne_eqb}
 use Rattle.std.proofs.lemmas.List.{get_or-set_same, get_or-set_other, length-map}
 use Rattle.std.proofs.lemmas.Bool.{cases_eq, eq-eqb}
 use Rattle.settings.specs.declared.names.Message.{Message}
@@ -10,11 +10,11 @@ use Rattle.settings.specs.Names.{place}
 use Rattle.settings.specs.Values.{Values, values, counts}
 use Rattle.settings.specs.Changes.{with_setting, counts_set}
 use Rattle.settings.proofs.Table.{place_within}
-use Rattle.commands.specs.Settings.{Configuration, configuration, changes, index, rate}
+use Rattle.commands.specs.Settings.{configuration, rate}
 use Rattle.commands.specs.Seen.{change_of}
 use Rattle.rule.specs.Events.{touches, carried, Strings}
 use Rattle.rule.specs.Events as event
-use Rattle.rule.specs.Words.{State, chosen}
+use Rattle.rule.specs.Words.{chosen}
 use Rattle.rule.specs.Steps.{stepped}
 use Rattle.inforce.specs.Has.{settings_of, count_of}
 

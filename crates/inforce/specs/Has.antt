@@ -1,5 +1,5 @@
 -- What a card has, of its settings and its memory.
-use Rattle.std.specs.Prelude.{ℕ, List, slice_index}
+use Rattle.std.specs.Prelude.{ℕ, slice_index}
 use Rattle.memory.specs.Memory.{Meaning}
 use Rattle.settings.specs.declared.names.Message.{Message}
 use Rattle.settings.specs.declared.values.Settings.{Settings}

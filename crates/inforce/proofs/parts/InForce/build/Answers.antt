@@ -1,5 +1,4 @@
-use Rattle.std.proofs.Common.{◌≡◌, [], ◌∷◌, get_or, sym, refl, ap, ◌∙◌, subst}
-use Rattle.settings.specs.declared.names.Message.{Message}
+use Rattle.std.proofs.Common.{[], ◌∷◌, get_or, sym, refl, ap, ◌∙◌, subst}
 use Rattle.settings.specs.Names.{place}
 use Rattle.commands.specs.Settings.{configuration}
 use Rattle.rule.specs.Events.{built, loaded}

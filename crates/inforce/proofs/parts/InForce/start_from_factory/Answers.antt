@@ -1,4 +1,4 @@
-use Rattle.std.proofs.Common.{◌≡◌, true, cond, [], Ok, sym, refl, ap, ◌∙◌}
+use Rattle.std.proofs.Common.{◌≡◌, true, cond, [], Ok, sym, ap, ◌∙◌}
 use Rattle.commands.specs.declared.command.Outcome.TheVariants.{Done, TurnedDown}
 use Rattle.rule.specs.Events.{cleared, factoried}
 use Rattle.rule.specs.Judging.{affords}
