@@ -3,11 +3,13 @@ use Rattle.std.proofs.Common.{◌≡◌, ℕ, ◌+◌, ◌-◌, ◌≤◌, List,
 use Rattle.std.proofs.lemmas.List.{take_all, take-append-drop}
 use Rattle.wire.specs.declared.reading.Ending.{Ending}
 use Rattle.wire.specs.Reading.{reading}
-use Rattle.wire.proofs.Finding.{few_unread}
+use Rattle.wire.specs.declared.reading.Ending.TheVariants.{More, Pause}
+use Rattle.wire.proofs.Finding.{few_unread, none_unread}
 use Rattle.rule.specs.Words.{State}
 use Rattle.rule.specs.Saying.{told, opened, written}
-use Rattle.rule.specs.Calls.{History, Keeps, Goes, hears, said_to, items}
+use Rattle.rule.specs.Calls.{History, Keeps, Goes, Waiting, hears, said_to, items}
 use Rattle.rule.proofs.Written.{reads_back}
+use Rattle.rule.proofs.Talks.{waiting_rest}
 use Rattle.card.specs.declared.tally.Tally.{Tally}
 use Rattle.card.specs.Hearing.{Heard}
 
@@ -23,6 +25,11 @@ whole unread bytes joined len h e =
 
 pub left : (all : List ℕ) (at n : ℕ) → length all ≤ n → take (n - at) (drop at all) ≡ drop at all
 left all at n h = take_all (n - at) (drop at all) (simp length-drop (omega arith))
+
+-- what stays unread waits for more; after a pause that is nothing
+pub waits_on : (ending : Ending) (all : List ℕ) → Waiting (reading ending all 0).unread
+waits_on More all = waiting_rest all
+waits_on Pause all = subst Waiting (sym (none_unread 0 all)) (record { none = refl; still = refl })
 
 pub hear_goes : (b : State) (h : History) (ending : Ending) (bytes all rest : List ℕ) (t : Tally) (before reply : List ℕ) (v : State) → all ≡ h.unread ++ bytes → Heard b (told b (opened h.events) (items ending all)) t reply v → t.written ≤ length reply → drop t.written reply ≡ drop t.written before → rest ≡ (reading ending all 0).unread
     → Goes b (hears b h ending bytes) (Ok (t.written, t.accepted, t.down)) before reply (record { state = v; unread = rest })

@@ -1,5 +1,6 @@
-use Rattle.std.proofs.Common.{◌≡◌, ℕ, ◌+◌, ◌-◌, ◌≤◌, List, ◌++◌, length, take, drop, sym, refl, ap, ◌∙◌, arith, length-take}
-use Rattle.card.proofs.Joins.{few, whole, left, hear_goes}
+use Rattle.std.proofs.Common.{◌≡◌, ℕ, ◌+◌, ◌-◌, ◌≤◌, List, ◌++◌, length, take, drop, sym, refl, ap, ◌∙◌, subst, arith, length-take}
+use Rattle.rule.specs.Calls.{Waiting}
+use Rattle.card.proofs.Joins.{few, whole, left, waits_on, hear_goes}
 use Rattle.card.proofs.parts.Card.hear.Goals as goal
 
 pub keep-requires : goal.keep-requires
@@ -14,7 +15,11 @@ invariant_of-self-2 g c =
     let n = c.args.self.now.len + length c.args.bytes.now in
     let at = c.hear_all.new.place.at in
     let f = few c.args.ending (take (n - 0) c.join.new.into) at (n - at) c.hear_all.ensures.rest in
-    (f, tt)
+    let short : length (take (n - 0) c.join.new.into) ≤ n = simp length-take (omega arith) in
+    record {
+      few = f;
+      waits = subst Waiting (sym (c.keep.ensures ∙ left (take (n - 0) c.join.new.into) at n short ∙ c.hear_all.ensures.rest)) (waits_on c.args.ending (take (n - 0) c.join.new.into));
+    }
 
 pub returns : goal.returns
 returns g c b h k =
