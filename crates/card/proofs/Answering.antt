@@ -1,15 +1,14 @@
 -- A frame or sentence that was obeyed and answered.
-use Rattle.std.proofs.Common.{◌≡◌, ℕ, ◌+◌, ◌≤◌, Bool, true, false, cond, List, [], ◌∷◌, ◌++◌, length, take, drop, is_some, Some, None, Ok, Err, Option, Result, unwrap_or, sym, refl, ap, ◌∙◌, subst, arith}
-use Rattle.std.specs.List.{flat_map}
-use Rattle.wire.specs.Items.{Item, frame_item, sentence_item, form}
+use Rattle.std.proofs.Common.{◌≡◌, ℕ, ◌+◌, ◌≤◌, Bool, true, false, cond, List, ◌++◌, take, is_some, Ok, Err, Result, sym, refl, ap, ◌∙◌, subst, arith}
+use Rattle.wire.specs.Items.{Item, frame_item, sentence_item}
 use Rattle.commands.specs.declared.command.Outcome.{Outcome}
 use Rattle.commands.specs.declared.command.Outcome.TheVariants.{PassedOver, TurnedDown, Done, Told}
 use Rattle.commands.specs.Settings.{Configuration}
-use Rattle.commands.specs.Commands.{Command, sets, saves, clears, loads, starts, asks, Request, passed_over, wrong, command, request_of}
+use Rattle.commands.specs.Commands.{sets, saves, clears, loads, starts, asks, Request, passed_over, wrong, command, request_of}
 use Rattle.rule.specs.Events.{Event}
 use Rattle.rule.specs.Words.{State, in_force, Follows}
 use Rattle.rule.specs.Judging.{judged, outcome, heard}
-use Rattle.rule.specs.Saying.{Said, drawn, answers_to, accepts, turns_down, spoken, written, AllLawful}
+use Rattle.rule.specs.Saying.{Said, answers_to, accepts, turns_down, spoken, written, AllLawful}
 use Rattle.rule.proofs.Written.{written_append, lawful_append}
 use Rattle.card.specs.declared.tally.Tally.{Tally}
 use Rattle.card.specs.Hearing.{Heard}

@@ -7,7 +7,7 @@ use Rattle.wire.specs.declared.reading.Ending.TheVariants.{More, Pause}
 use Rattle.wire.proofs.Finding.{few_unread, none_unread}
 use Rattle.rule.specs.Words.{State}
 use Rattle.rule.specs.Saying.{told, opened, written}
-use Rattle.rule.specs.Calls.{History, Keeps, Goes, Waiting, hears, said_to, items}
+use Rattle.rule.specs.Calls.{History, Goes, Waiting, hears, said_to, items}
 use Rattle.rule.proofs.Written.{reads_back}
 use Rattle.rule.proofs.Talks.{waiting_rest}
 use Rattle.card.specs.declared.tally.Tally.{Tally}

@@ -1,12 +1,12 @@
 -- A frame that is written into a buffer from a place on.
-use Rattle.std.proofs.Common.{◌≡◌, ℕ, ◌+◌, ◌-◌, ◌≤◌, true, cond, ◌&&◌, leb, List, [], ◌∷◌, ◌++◌, length, take, drop, Ok, Err, Result, sym, refl, ap, ◌∙◌, append_assoc, arith, length-append, length-drop, length-take, length-take-le}
+use Rattle.std.proofs.Common.{◌≡◌, ℕ, ◌+◌, ◌-◌, ◌≤◌, true, leb, List, [], ◌++◌, length, take, drop, Ok, Err, Result, sym, ap, ◌∙◌, append_assoc, arith, length-append, length-drop, length-take-le}
 use borrow.Rule.Slice.PartMut.{mid_of, post_of, put_mid}
 use Rattle.std.proofs.lemmas.List.{take_at, drop_at, drop_all, drop-drop, take_all, append-nil}
 use Rattle.std.proofs.lemmas.Bool.{le-leb, cond-true}
 use Rattle.wire.specs.declared.refusal.Refusal.{Refusal}
 use Rattle.wire.specs.Frames.{frame, lawful_length}
 use Rattle.wire.specs.Items.{frame_item}
-use Rattle.wire.specs.Writes.{frame_written, fitted}
+use Rattle.wire.specs.Writes.{frame_written}
 use Rattle.wire.proofs.Judgement.{sizes}
 
 -- what was written at the start of the bytes from a place on

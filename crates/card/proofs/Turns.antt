@@ -1,13 +1,12 @@
 -- One turn of the reading loop.
-use Rattle.std.proofs.Common.{◌≡◌, ℕ, ◌+◌, ◌-◌, ◌*◌, ◌<◌, ◌≤◌, List, [], ◌∷◌, map, length, take, drop, sym, refl, ap, ◌∙◌, subst, arith}
-use Rattle.std.proofs.lemmas.List.{drop_all, drop-drop}
+use Rattle.std.proofs.Common.{◌≡◌, ℕ, ◌+◌, ◌-◌, ◌*◌, ◌≤◌, List, [], ◌∷◌, map, length, take, drop, sym, refl, ap, ◌∙◌, subst, arith}
+use Rattle.std.proofs.lemmas.List.{drop-drop}
 use Rattle.wire.specs.declared.reading.Ending.{Ending}
 use Rattle.wire.specs.Items.{Item, frame_item, sentence_item, size}
-use Rattle.wire.specs.Reading.{Placed, Reading, reading}
-use Rattle.wire.proofs.Steps.{none_left}
+use Rattle.wire.specs.Reading.{reading}
 use Rattle.rule.specs.Events.{Event}
 use Rattle.rule.specs.Words.{State, Follows}
-use Rattle.rule.specs.Saying.{Said, opened, told, spoken, written}
+use Rattle.rule.specs.Saying.{Said, opened, told, spoken}
 use Rattle.rule.specs.Calls.{items}
 use Rattle.card.specs.declared.tally.Tally.{Tally}
 use Rattle.card.specs.Hearing.{most, Heard, SoFar}

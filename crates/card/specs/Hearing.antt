@@ -1,5 +1,5 @@
 -- What has been answered and counted so far, in a tally and a reply buffer.
-use Rattle.std.specs.Prelude.{◌≡◌, ℕ, List, [], map, take}
+use Rattle.std.specs.Prelude.{◌≡◌, ℕ, List, map, take}
 use Rattle.wire.specs.declared.reading.Ending.{Ending}
 use Rattle.wire.specs.Items.{Item, frame_item, sentence_item}
 use Rattle.wire.specs.Reading.{reading}

@@ -1,4 +1,6 @@
 // A timing card that is sent bytes, on a settings memory of any make.
+#![tactic(auto)]
+
 mod answers;
 mod card;
 mod hearing;

@@ -1,4 +1,4 @@
-use Rattle.std.proofs.Common.{◌+◌, ◌++◌, take, sym, refl, ap, ◌∙◌, subst, arith}
+use Rattle.std.proofs.Common.{◌++◌, take, sym, refl, ap, ◌∙◌, subst, arith}
 use Rattle.wire.specs.Seen.{item_of}
 use Rattle.rule.specs.Words.{Follows}
 use Rattle.rule.specs.Judging.{outcome, heard}

@@ -1,4 +1,4 @@
-use Rattle.std.proofs.Common.{◌≡◌, ℕ, ◌+◌, ◌-◌, ◌≤◌, List, ◌++◌, length, take, drop, sym, refl, ap, ◌∙◌, subst, arith, length-take}
+use Rattle.std.proofs.Common.{◌+◌, ◌-◌, ◌≤◌, ◌++◌, length, take, sym, ap, ◌∙◌, subst, arith, length-take}
 use Rattle.rule.specs.Calls.{Waiting}
 use Rattle.card.proofs.Joins.{few, whole, left, waits_on, hear_goes}
 use Rattle.card.proofs.parts.Card.hear.Goals as goal

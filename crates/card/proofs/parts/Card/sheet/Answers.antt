@@ -1,4 +1,4 @@
-use Rattle.std.proofs.Common.{◌≡◌, sym, ap, ◌∙◌}
+use Rattle.std.proofs.Common.{sym, ap, ◌∙◌}
 use Rattle.inforce.specs.Has.{settings_of}
 use Rattle.card.proofs.Sheets.{sheet_told, sheet_numbers}
 use Rattle.card.proofs.parts.Card.sheet.Goals as goal
