@@ -111,14 +111,17 @@ def turned(path, names):
 
 
 def main(words):
+    if words == ["--help"]:
+        print(__doc__)
+        return 0
+    if words not in ([], ["--list"]):
+        print("usage: python3 tools/rename.py [--list]", file=sys.stderr)
+        return 2
     names = new_names()
     if words == ["--list"]:
         for old, new in names.items():
             print(old, new)
         return 0
-    if words:
-        print(__doc__)
-        return 2
     for path in files():
         text = turned(path, names)
         if text != open(path, encoding="utf-8").read():
