@@ -4,15 +4,15 @@
 mod print;
 mod typed;
 
-use anyhow::anyhow;
 use fix::{Fix, check};
 use print::{print_messages, print_refusal};
+use programs::filter;
 use settings::Systems;
+use std::io;
 use std::io::{BufRead, BufReader};
 use std::process::ExitCode;
 use std::str::from_utf8;
-use std::{env, io};
-use typed::{Fault, read_fix, systems};
+use typed::{Fault, read_fix};
 
 const HELP: &str = "usage: fixes < FIXES
 
@@ -52,13 +52,10 @@ fn print_fix(rt: &HostRuntime, fix: &Fix, systems: Systems) -> io::Result<()> {
 // What a line comes to.
 fn print_line(rt: &HostRuntime, place: u64, line: &str) -> io::Result<()> {
     match read_fix(line) {
-        Ok((fix, value)) => match systems(value) {
-            Ok(systems) => {
-                println!(rt; "{line}")?;
-                print_fix(rt, &fix, systems)
-            }
-            Err(fault) => print_fault(rt, place, fault),
-        },
+        Ok((fix, systems)) => {
+            println!(rt; "{line}")?;
+            print_fix(rt, &fix, systems)
+        }
         Err(fault) => print_fault(rt, place, fault),
     }
 }
@@ -71,11 +68,10 @@ fn print_text(rt: &HostRuntime, place: u64, text: &str) -> io::Result<()> {
     print_line(rt, place, text)
 }
 
-fn print_all(rt: &HostRuntime) -> io::Result<()> {
-    let mut place = 0u64;
-    for line in BufReader::new(rt.alloc(), rt.stdin())?.split(rt.alloc(), b'\n') {
+fn print_input(rt: &HostRuntime) -> anyhow::Result<()> {
+    let lines = BufReader::new(rt.alloc(), rt.stdin())?.split(rt.alloc(), b'\n');
+    for (place, line) in (1..=u64::MAX).zip(lines) {
         let line = line?;
-        place = place.saturating_add(1);
         match from_utf8(line.as_slice()) {
             Ok(text) => print_text(rt, place, text.trim())?,
             Err(_) => print_fault(rt, place, Fault::NoText)?,
@@ -84,30 +80,6 @@ fn print_all(rt: &HostRuntime) -> io::Result<()> {
     Ok(())
 }
 
-fn run(rt: &HostRuntime) -> anyhow::Result<()> {
-    let mut args = env::args(rt)?;
-    let _name = args.next();
-    match args.next() {
-        Some(arg) => {
-            if arg.as_str() != "--help" {
-                return Err(anyhow!(
-                    "no argument but --help is taken; the fixes come on standard input"
-                ));
-            }
-            println!(rt; "{HELP}")?;
-        }
-        None => print_all(rt)?,
-    }
-    Ok(())
-}
-
-// An error is one line on standard error, and status 1.
 fn main(rt: HostRuntime) -> ExitCode {
-    match run(&rt) {
-        Ok(()) => ExitCode::SUCCESS,
-        Err(e) => {
-            let _ = eprintln!(rt; "fixes: {e}");
-            ExitCode::FAILURE
-        }
-    }
+    filter(&rt, "fixes", HELP, "fixes come", print_input)
 }

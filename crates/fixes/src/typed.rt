@@ -22,9 +22,9 @@ pub enum Word {
     Hdop,
 }
 
-impl Word {
-    fn name(self) -> &'static str {
-        match self {
+impl fmt::Display for Word {
+    fn fmt<W: fmt::Write>(&self, f: &mut fmt::Formatter<W>) -> fmt::Result {
+        f.write_str(match self {
             Word::Date => "date",
             Word::Time => "time",
             Word::Systems => "systems",
@@ -38,9 +38,11 @@ impl Word {
             Word::Speed => "speed",
             Word::Course => "course",
             Word::Hdop => "HDOP",
-        }
+        })
     }
+}
 
+impl Word {
     fn form(self) -> &'static str {
         match self {
             Word::Date => "year-month-day",
@@ -68,14 +70,10 @@ pub enum Fault {
 impl fmt::Display for Fault {
     fn fmt<W: fmt::Write>(&self, f: &mut fmt::Formatter<W>) -> fmt::Result {
         match self {
-            Fault::Missing(word) => {
-                let name = word.name();
-                write!(f, "{name} is missing")
-            }
+            Fault::Missing(word) => write!(f, "{word} is missing"),
             Fault::Wrong(word) => {
-                let name = word.name();
                 let form = word.form();
-                write!(f, "{name} is not {form}")
+                write!(f, "{word} is not {form}")
             }
             Fault::TooMany => write!(f, "more than 13 words"),
             Fault::NoText => write!(f, "not text"),
@@ -87,10 +85,7 @@ fn number<T: FromStr>(word: Word, text: &str) -> Result<T, Fault>
 where
     T::Err: Drop,
 {
-    match text.parse::<T>() {
-        Ok(n) => Ok(n),
-        Err(_) => Err(Fault::Wrong(word)),
-    }
+    text.parse().map_err(|_| Fault::Wrong(word))
 }
 
 fn date(text: &str) -> Result<Date, Fault> {
@@ -126,10 +121,8 @@ fn four_bytes(word: Word, text: &str) -> Result<u32, Fault> {
     if text.len() != 8 || text.starts_with('+') {
         return Err(Fault::Wrong(word));
     }
-    match u32::from_str_radix(text, 16) {
-        Ok(n) => Ok(u32::from_le_bytes(n.to_be_bytes())),
-        Err(_) => Err(Fault::Wrong(word)),
-    }
+    let n = u32::from_str_radix(text, 16).map_err(|_| Fault::Wrong(word))?;
+    Ok(u32::from_le_bytes(n.to_be_bytes()))
 }
 
 // The next word of a line.
@@ -169,20 +162,21 @@ fn clock(words: &mut SplitWhitespace<'_>) -> Result<(u32, u32, u32), Fault> {
 
 // The position of six words, or none of none.
 fn place(words: &mut SplitWhitespace<'_>) -> Result<Option<Position>, Fault> {
-    match words.next() {
-        Some(latitude) => Ok(Some(position(latitude, words)?)),
-        None => Ok(None),
-    }
+    words
+        .next()
+        .map(|latitude| position(latitude, words))
+        .transpose()
 }
 
-// The fix of a line, and the number of the systems in use.
-pub fn read_fix(line: &str) -> Result<(Fix, u8), Fault> {
+// The fix of a line, and the systems in use.
+pub fn read_fix(line: &str) -> Result<(Fix, Systems), Fault> {
     let mut words = line.split_whitespace();
     let (date, time) = moment(&mut words)?;
     let systems = number(Word::Systems, next(&mut words, Word::Systems)?)?;
     let (run_time, time_accuracy, ms_error) = clock(&mut words)?;
     let satellites = number(Word::Satellites, next(&mut words, Word::Satellites)?)?;
     let position = place(&mut words)?;
+    let systems = Systems::new(systems).ok_or(Fault::Wrong(Word::Systems))?;
     let fix = Fix {
         date,
         time,
@@ -193,9 +187,4 @@ pub fn read_fix(line: &str) -> Result<(Fix, u8), Fault> {
         position,
     };
     Ok((fix, systems))
-}
-
-// The systems in use, if the number names any.
-pub fn systems(value: u8) -> Result<Systems, Fault> {
-    Systems::new(value).ok_or(Fault::Wrong(Word::Systems))
 }

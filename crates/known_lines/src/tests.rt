@@ -1,6 +1,6 @@
 // The fix of the protocol's own lines, fixes that differ from it in one number, and the edges of the calendar.
 use fix::{Date, Fix, Position, Time, check as checked};
-use messages::{write_gga, write_gll, write_rmc, write_time_utc, write_zda};
+use messages::{Gga, Gll, Rmc, Sentence, Zda, write_message, write_time_utc};
 use settings::Systems;
 use std::process::Abort;
 use std::test::Fail;
@@ -40,34 +40,20 @@ fn at(position: Position) -> Fix {
     }
 }
 
-#[derive(Clone, Copy)]
-enum Message {
-    Gga,
-    Gll,
-    Rmc,
-    Zda,
-}
-
-fn written(message: Message, fix: &Fix, systems: u8, out: &mut [u8; 82]) -> Result<usize, Fail> {
-    let Some(systems) = Systems::new(systems) else {
-        return Err(Fail::new("no systems"));
-    };
-    let Ok(fix) = checked(fix) else {
-        return Err(Fail::new("no fix"));
-    };
-    let len = match message {
-        Message::Gga => write_gga(&fix, systems, out),
-        Message::Gll => write_gll(&fix, systems, out),
-        Message::Rmc => write_rmc(&fix, systems, out),
-        Message::Zda => write_zda(&fix, systems, out),
-    };
-    Ok(len.ok().ok_or("not written")?)
+fn written<S: Sentence>(fix: &Fix, systems: u8, out: &mut [u8; 82]) -> Result<usize, Fail> {
+    let systems = Systems::new(systems).ok_or("no systems")?;
+    let fix = checked(fix).ok().ok_or("no fix")?;
+    Ok(
+        write_message::<S>(&fix, systems, out)
+            .ok()
+            .ok_or("not written")?,
+    )
 }
 
 // The output holds the line, CR and LF, and behind them what it held before.
-fn says(rt: &impl Abort, message: Message, fix: &Fix, systems: u8, line: &str) -> Result<(), Fail> {
+fn says<S: Sentence>(rt: &impl Abort, fix: &Fix, systems: u8, line: &str) -> Result<(), Fail> {
     let mut out = [0xee; 82];
-    let len = written(message, fix, systems, &mut out)?;
+    let len = written::<S>(fix, systems, &mut out)?;
     let text = line.as_bytes();
     let size = text.len();
     assert!(rt; size <= 80);
@@ -96,41 +82,26 @@ fn known_lines(rt: HostRuntime) -> Result<(), Fail> {
         },
         ..FIX
     };
-    says(
+    says::<Gga>(
         &rt,
-        Message::Gga,
         &FIX,
         1,
         "$GPGGA,235316.000,2959.9925,S,12000.0090,E,1,06,1.21,62.77,M,0.00,M,,*7B",
     )?;
-    says(
+    says::<Gll>(
         &rt,
-        Message::Gll,
         &FIX,
         1,
         "$GPGLL,2959.9925,S,12000.0090,E,235316.000,A,A*4E",
     )?;
-    says(
+    says::<Rmc>(
         &rt,
-        Message::Rmc,
         &FIX,
         1,
         "$GPRMC,235316.000,A,2959.9925,S,12000.0090,E,0.009,75.020,020711,,,A*45",
     )?;
-    says(
-        &rt,
-        Message::Zda,
-        &FIX,
-        1,
-        "$GPZDA,235316.000,02,07,2011,00,00*51",
-    )?;
-    says(
-        &rt,
-        Message::Zda,
-        &new_year,
-        3,
-        "$GNZDA,235402.000,31,12,2016,00,00*4E",
-    )
+    says::<Zda>(&rt, &FIX, 1, "$GPZDA,235316.000,02,07,2011,00,00*51")?;
+    says::<Zda>(&rt, &new_year, 3, "$GNZDA,235402.000,31,12,2016,00,00*4E")
 }
 
 #[test]
@@ -145,9 +116,8 @@ fn positions(rt: HostRuntime) -> Result<(), Fail> {
             "$GPGGA,235316.000,2959.9925,S,12000.0090,E,1,06,1.21,-1.00,M,0.00,M,,*63",
         ),
     ] {
-        says(
+        says::<Gga>(
             &rt,
-            Message::Gga,
             &at(Position {
                 altitude,
                 ..POSITION
@@ -174,9 +144,8 @@ fn positions(rt: HostRuntime) -> Result<(), Fail> {
             "$GPGLL,2959.9925,S,18000.0000,W,235316.000,A,A*5F",
         ),
     ] {
-        says(
+        says::<Gll>(
             &rt,
-            Message::Gll,
             &at(Position {
                 latitude,
                 longitude,
@@ -201,7 +170,7 @@ fn satellites(rt: HostRuntime) -> Result<(), Fail> {
             "$GPGGA,235316.000,2959.9925,S,12000.0090,E,1,24,1.21,62.77,M,0.00,M,,*7B",
         ),
     ] {
-        says(&rt, Message::Gga, &Fix { satellites, ..FIX }, 1, line)?;
+        says::<Gga>(&rt, &Fix { satellites, ..FIX }, 1, line)?;
     }
     Ok(())
 }
@@ -212,38 +181,16 @@ fn no_position(rt: HostRuntime) -> Result<(), Fail> {
         position: None,
         ..FIX
     };
-    says(
-        &rt,
-        Message::Gga,
-        &fix,
-        1,
-        "$GPGGA,235316.000,,,,,0,06,,,M,0.00,M,,*60",
-    )?;
-    says(&rt, Message::Gll, &fix, 1, "$GPGLL,,,,,235316.000,V,N*7A")?;
-    says(
-        &rt,
-        Message::Rmc,
-        &fix,
-        1,
-        "$GPRMC,235316.000,V,,,,,,,020711,,,N*48",
-    )?;
-    says(
-        &rt,
-        Message::Zda,
-        &fix,
-        1,
-        "$GPZDA,235316.000,02,07,2011,00,00*51",
-    )
+    says::<Gga>(&rt, &fix, 1, "$GPGGA,235316.000,,,,,0,06,,,M,0.00,M,,*60")?;
+    says::<Gll>(&rt, &fix, 1, "$GPGLL,,,,,235316.000,V,N*7A")?;
+    says::<Rmc>(&rt, &fix, 1, "$GPRMC,235316.000,V,,,,,,,020711,,,N*48")?;
+    says::<Zda>(&rt, &fix, 1, "$GPZDA,235316.000,02,07,2011,00,00*51")
 }
 
 #[test]
 fn time_utc(rt: HostRuntime) -> Result<(), Fail> {
-    let Some(systems) = Systems::new(4) else {
-        return Err(Fail::new("no systems"));
-    };
-    let Ok(fix) = checked(&FIX) else {
-        return Err(Fail::new("no fix"));
-    };
+    let systems = Systems::new(4).ok_or("no systems")?;
+    let fix = checked(&FIX).ok().ok_or("no fix")?;
     let mut out = [0xee; 35];
     let len = write_time_utc(&fix, systems, &mut out)
         .ok()
@@ -264,10 +211,7 @@ fn time_utc(rt: HostRuntime) -> Result<(), Fail> {
 
 // The number by which a fix is refused, or 0.
 fn number(fix: &Fix) -> u8 {
-    match checked(fix) {
-        Ok(_) => 0,
-        Err(refusal) => refusal.number(),
-    }
+    checked(fix).err().map_or(0, |refusal| refusal.number())
 }
 
 #[test]

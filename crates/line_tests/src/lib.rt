@@ -4,7 +4,7 @@
 #[cfg(test)]
 mod tests {
     use std::process::Abort;
-    use wire::{Ending, Found, Place, Refusal, frame_sum, read_next, write_frame, write_sentence};
+    use wire::{Ending, Found, Frame, Place, Refusal, read_next, write_sentence};
 
     // How many good items some bytes hold, where the first begins, and how many bytes are left unread.
     #[derive(Clone, Copy, Debug, PartialEq, Eq)]
@@ -18,7 +18,7 @@ mod tests {
         let mut place = Place { at: 0 };
         let mut items = 0;
         let mut first = 0;
-        loop {
+        let unread = loop {
             match read_next(bytes, ending, &mut place) {
                 Found::Good(at, _) => {
                     if items == 0 {
@@ -26,38 +26,29 @@ mod tests {
                     }
                     items += 1;
                 }
-                Found::Unfinished(at) => {
-                    let unread = bytes.len() - at;
-                    return Tally {
-                        items,
-                        first,
-                        unread,
-                    };
-                }
-                Found::End => {
-                    return Tally {
-                        items,
-                        first,
-                        unread: 0,
-                    };
-                }
+                Found::Unfinished(at) => break bytes.len() - at,
+                Found::End => break 0,
             }
+        };
+        Tally {
+            items,
+            first,
+            unread,
         }
     }
 
     // Some bytes, how many good items are in them, where the first begins, and how many bytes are unread.
-    #[derive(Drop)]
+    #[derive(Clone, Copy)]
     struct Case<'a>(&'a [u8], usize, usize, usize);
 
     fn check_cases(rt: &impl Abort, cases: &[Case], ending: Ending) {
-        for case in cases {
-            let Case(bytes, items, first, unread) = case;
+        for &Case(bytes, items, first, unread) in cases {
             assert_eq!(rt;
                 read_all(bytes, ending),
                 Tally {
-                    items: *items,
-                    first: *first,
-                    unread: *unread,
+                    items,
+                    first,
+                    unread,
                 }
             );
         }
@@ -139,16 +130,20 @@ mod tests {
         check_cases(&rt, &cases, Ending::Pause);
     }
 
+    fn frame(class: u8, id: u8, payload: &[u8]) -> Frame<'_> {
+        Frame { class, id, payload }
+    }
+
     #[test]
     fn payload_sizes(rt: HostRuntime) {
         let mut out = [0u8; 78];
-        assert_eq!(rt; write_frame(1, 0x10, &[7; 64], &mut out[0..74]), Ok(74));
+        assert_eq!(rt; frame(1, 0x10, &[7; 64]).write(&mut out[0..74]), Ok(74));
         assert_eq!(rt; read_all(&out[0..74], Ending::More).items, 1);
         assert_eq!(rt;
-            write_frame(1, 0x10, &[7; 68], &mut out),
+            frame(1, 0x10, &[7; 68]).write(&mut out),
             Err(Refusal::PayloadLength)
         );
-        assert_eq!(rt; frame_sum(1, 0x10, &[0; 68]), 0x1001_0044);
+        assert_eq!(rt; frame(1, 0x10, &[0; 68]).sum(), 0x1001_0044);
         let mut long = [0u8; 78];
         long[0..12].copy_from_slice(b"\xba\xce\x44\x00\x01\x10\x00\x00\x00\x00\x00\x00");
         long[74..78].copy_from_slice(b"\x44\x00\x01\x10");
@@ -159,11 +154,11 @@ mod tests {
     fn refusals(rt: HostRuntime) {
         let mut out = [9u8; 14];
         assert_eq!(rt;
-            write_frame(6, 4, &[1, 2, 3], &mut out),
+            frame(6, 4, &[1, 2, 3]).write(&mut out),
             Err(Refusal::PayloadLength)
         );
         assert_eq!(rt;
-            write_frame(6, 4, &[0; 8], &mut out),
+            frame(6, 4, &[0; 8]).write(&mut out),
             Err(Refusal::OutputTooShort)
         );
         assert_eq!(rt; write_sentence(b"A*B", &mut out), Err(Refusal::Body));

@@ -1,11 +1,11 @@
 -- What a listing of some bytes comes to.
-use Rattle.std.specs.Prelude.{◌≡◌, ℕ, ◌+◌, ◌-◌, ◌^◌, ◌≤◌, min, List, [], ◌∷◌, length, take, drop}
+use Rattle.std.specs.Prelude.{◌≡◌, ℕ, ◌+◌, ◌-◌, ◌^◌, ◌≤◌, min, List, [], ◌∷◌, ◌++◌, length, drop}
 use Rattle.wire.specs.declared.reading.Ending.{Ending}
 use Rattle.wire.specs.declared.reading.Ending.TheVariants.{More}
 use Rattle.wire.specs.Items.{size}
 use Rattle.wire.specs.Reading.{Placed, reading}
 use Rattle.listen.specs.declared.Listed.{Listed}
-use Rattle.listen.specs.declared.held.Held.{Held}
+use Rattle.listen.specs.declared.Held.{Held}
 
 -- how many bytes the found frames and sentences have
 abbrev pub bytes_of : List Placed → ℕ
@@ -23,8 +23,9 @@ pub record Lists (ending : Ending) (bytes : List ℕ) (l : Listed) : Type 0 wher
 abbrev pub counted : ℕ → ℕ
 counted n = min n (2 ^ 64 - 1)
 
--- bytes up to an end are taken in: their unread rest stands at the front, and the counts go on
-pub record Takes (bytes exit : List ℕ) (end : ℕ) (before after : Held) : Type 0 where
-  pub unread : take after.unread exit ≡ (reading More (take end bytes) 0).unread
-  pub start : after.start ≡ counted (before.start + (end - after.unread))
-  pub good : after.good ≡ counted (before.good + bytes_of (reading More (take end bytes) 0).found)
+-- a piece is taken in behind the unread bytes: the rest is what reading both leaves, and the counts go on
+pub record Takes (waiting piece rest : List ℕ) (before after : Held) : Type 0 where
+  pub unread : rest ≡ (reading More (waiting ++ piece) 0).unread
+  pub few : length rest ≤ 81
+  pub start : after.start ≡ counted (before.start + (length (waiting ++ piece) - length rest))
+  pub good : after.good ≡ counted (before.good + bytes_of (reading More (waiting ++ piece) 0).found)

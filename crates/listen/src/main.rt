@@ -1,18 +1,15 @@
 // Lists the frames and sentences in a capture of the line, from standard input.
 #![tactic(auto)]
 
-mod held;
-
-ghost use Rattle.std.specs.Prelude.{◌≡◌, ◌-◌, ◌≤◌, length, drop, IfOk};
-ghost use Rattle.std.proofs.Math.Seq.{paste};
+ghost use Rattle.std.specs.Prelude.{IfOk};
 ghost use Rattle.listen.specs.Listing.{Lists, Takes};
 
-use anyhow::anyhow;
-use held::Held;
 use names::message_name;
+use prints::{Hex, Text};
+use programs::filter;
+use std::io;
 use std::io::Read;
 use std::process::ExitCode;
-use std::{env, fmt, io};
 use wire::{Ending, Found, Frame, Item, Place, read_next};
 
 const HELP: &str = "usage: listen < CAPTURE
@@ -25,36 +22,6 @@ and how many bytes were stray.";
 // How many bytes are read at once.
 const PIECE: usize = 65536;
 
-// The most bytes that reading leaves unread.
-const UNREAD: usize = 81;
-
-// Bytes in hex, each behind a space.
-#[derive(Drop)]
-struct Hex<'a>(&'a [u8]);
-
-impl fmt::Display for Hex<'_> {
-    fn fmt<W: fmt::Write>(&self, f: &mut fmt::Formatter<W>) -> fmt::Result {
-        for b in self.0 {
-            write!(f, " {b:02X}")?;
-        }
-        Ok(())
-    }
-}
-
-// Printable bytes as text.
-#[derive(Drop)]
-struct Text<'a>(&'a [u8]);
-
-impl fmt::Display for Text<'_> {
-    fn fmt<W: fmt::Write>(&self, f: &mut fmt::Formatter<W>) -> fmt::Result {
-        for b in self.0 {
-            let c = *b as char;
-            write!(f, "{c}")?;
-        }
-        Ok(())
-    }
-}
-
 // Where the unread rest of some bytes begins, and how many bytes the frames and sentences before it have.
 #[derive(Clone, Copy)]
 struct Listed {
@@ -63,12 +30,11 @@ struct Listed {
 }
 
 fn print_frame(rt: &HostRuntime, place: u64, frame: Frame) -> io::Result<()> {
-    let class = frame.class;
-    let id = frame.id;
+    let Frame { class, id, payload } = frame;
     let name = message_name(class, id).unwrap_or("-");
-    let len = frame.payload.len();
-    let payload = Hex(frame.payload);
-    println!(rt; "{place:>8}  frame     {class:02X} {id:02X}  {name:<11} {len:>2}{payload}")
+    let len = payload.len();
+    let bytes = Hex(payload);
+    println!(rt; "{place:>8}  frame     {class:02X} {id:02X}  {name:<11} {len:>2}{bytes}")
 }
 
 fn print_item(rt: &HostRuntime, place: u64, item: Item) -> io::Result<()> {
@@ -102,68 +68,40 @@ fn list(rt: &HostRuntime, bytes: &[u8], ending: Ending, start: u64) -> io::Resul
     }
 }
 
-// Moves the bytes between two places to the front.
-fn move_to_front(bytes: &mut [u8], from: usize, to: usize)
-    requires { (from ≤ to) × (to ≤ length bytes.old) }
-    ensures { bytes.new ≡ paste bytes.old 0 (drop from bytes.old) (to - from) }
-{
-    bytes.copy_within(from..to, 0);
+// How far a capture is listed: the place of the first unread byte, and how many bytes before it were good.
+#[derive(Clone, Copy)]
+struct Held {
+    start: u64,
+    good: u64,
 }
 
-// Lists the bytes up to `end` and moves those left unread to the front.
-fn take_in(rt: &HostRuntime, bytes: &mut [u8], end: usize, held: Held) -> io::Result<Held>
-    requires { end ≤ length bytes.old }
-    ensures { IfOk result (Takes bytes.old bytes.new end held) }
+// Lists a piece behind the unread bytes, which are then those that it leaves unread.
+fn take_in(rt: &HostRuntime, unread: &mut Vec<u8>, piece: &[u8], held: Held) -> io::Result<Held>
+    ensures { IfOk result (Takes unread.old.items piece.now unread.new.items held) }
 {
-    let listed = list(rt, &bytes[0..end], Ending::More, held.start)?;
-    let rest = listed.rest;
-    let unread = end - rest;
-    move_to_front(bytes, rest, end);
-    let start = held.start.saturating_add(rest as u64);
-    let good = held.good.saturating_add(listed.good as u64);
+    unread.extend_from_slice(piece)?;
+    let Listed { rest, good } = list(rt, unread.as_slice(), Ending::More, held.start)?;
+    unread.drain(..rest);
     Ok(Held {
-        unread,
-        start,
-        good,
+        start: held.start.saturating_add(rest as u64),
+        good: held.good.saturating_add(good as u64),
     })
 }
 
-// Lists standard input to its end, as its bytes come.
-fn take_all(rt: &HostRuntime, bytes: &mut [u8]) -> io::Result<Held>
-    requires { 81 ≤ length bytes.old }
-{
-    let mut held = Held {
-        unread: 0,
-        start: 0,
-        good: 0,
-    };
+// Lists standard input to its end, as its bytes come; what is left unread stays in `unread`.
+fn take_all(rt: &HostRuntime, unread: &mut Vec<u8>) -> io::Result<Held> {
+    let mut held = Held { start: 0, good: 0 };
+    let mut piece = [0u8; PIECE];
     let mut input = rt.stdin();
+    // A `for` where Rust has a `loop`: every function is proved to end, and standard input need not.
     for _ in 0..u64::MAX {
-        let unread = held.unread;
-        let n = input.read(&mut bytes[unread..])?;
+        let n = input.read(&mut piece)?;
         if n == 0 {
             break;
         }
-        held = take_in(rt, bytes, unread + n, held)?;
+        held = take_in(rt, unread, &piece[..n], held)?;
     }
     Ok(held)
-}
-
-fn run(rt: &HostRuntime) -> anyhow::Result<()> {
-    let mut args = env::args(rt)?;
-    let _ = args.next();
-    if let Some(word) = args.next() {
-        if word.as_str() == "--help" {
-            rt.println(HELP)?;
-            return Ok(());
-        }
-        return Err(anyhow!("no argument but --help is taken; the capture comes on standard input"));
-    }
-    let mut buffer = [0u8; UNREAD + PIECE];
-    let held = take_all(rt, &mut buffer)?;
-    let unread = held.unread;
-    finish(rt, &buffer[0..unread], held)?;
-    Ok(())
 }
 
 // Prints the unfinished try, what a pause finds in it, and how many bytes were stray.
@@ -181,13 +119,13 @@ fn finish(rt: &HostRuntime, unread: &[u8], held: Held) -> io::Result<()> {
     println!(rt; "stray bytes: {stray}")
 }
 
-// An error is one line on standard error, and status 1.
+fn list_input(rt: &HostRuntime) -> anyhow::Result<()> {
+    let mut unread = Vec::new(rt.alloc());
+    let held = take_all(rt, &mut unread)?;
+    finish(rt, unread.as_slice(), held)?;
+    Ok(())
+}
+
 fn main(rt: HostRuntime) -> ExitCode {
-    match run(&rt) {
-        Ok(()) => ExitCode::SUCCESS,
-        Err(e) => {
-            let _ = eprintln!(rt; "listen: {e}");
-            ExitCode::FAILURE
-        }
-    }
+    filter(&rt, "listen", HELP, "capture comes", list_input)
 }

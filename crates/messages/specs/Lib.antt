@@ -1,6 +1,1 @@
-pub mod Decimals
-pub mod Fields
-pub mod Bodies
-pub mod Payloads
 pub mod Lines
-pub mod Laws

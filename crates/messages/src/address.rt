@@ -1,10 +1,11 @@
 // How a sentence starts.
 ghost use Rattle.std.specs.Prelude.{◌≡◌, ◌≤◌, length};
-ghost use Rattle.messages.specs.Bodies.{sender, address};
+ghost use Rattle.bodies.specs.Bodies.{sender, address};
 ghost use Rattle.messages.specs.Lines.{written};
 
 use crate::line::Line;
 use settings::Systems;
+use texts::Text;
 
 // Who sends, by the systems in use.
 fn sender(systems: Systems) -> [u8; 2]
@@ -23,13 +24,10 @@ fn sender(systems: Systems) -> [u8; 2]
 pub fn start(systems: Systems, name: &[u8]) -> Line
     requires { length name.now ≤ 3 }
     ensures text { written result ≡ address systems.mask name.now }
-    ensures len { result.len ≤ 5 }
+    ensures len { length (written result) ≤ 5 }
 {
-    let mut line = Line {
-        bytes: [0; 76],
-        len: 0,
-    };
-    line.append(&sender(systems));
-    line.append(name);
-    line
+    let mut text = Text::new();
+    text.append(&sender(systems));
+    text.append(name);
+    Line { text }
 }

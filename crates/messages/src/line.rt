@@ -1,11 +1,8 @@
 // A sentence's body under way.
-ghost use Rattle.std.specs.Prelude.{◌≡◌, ◌≤◌, length};
+use texts::Text;
 
-// The first `len` bytes are written.
+// At most 76 bytes.
 #[derive(Drop)]
 pub struct Line {
-    pub bytes: [u8; 76],
-    pub len: usize,
-    ghost whole: { length bytes ≡ 76 },
-    ghost within: { len ≤ 76 },
+    pub(crate) text: Text<76>,
 }

@@ -2,12 +2,12 @@
 ghost use Rattle.std.specs.Prelude.{◌≡◌};
 ghost use Rattle.wire.specs.Frames.{frame};
 ghost use Rattle.wire.specs.Writes.{fitted};
-ghost use Rattle.messages.specs.Laws.{GoodFrame, Tells, time_utc_numbers};
-ghost use Rattle.messages.specs.Payloads.{source, time_utc_payload};
+ghost use Rattle.bodies.specs.Laws.{GoodFrame, Tells, time_utc_numbers};
+ghost use Rattle.bodies.specs.Payloads.{source, time_utc_payload};
 
 use fix::CheckedFix;
 use settings::Systems;
-use wire::Refusal;
+use wire::{Frame, Refusal};
 
 // The time's source: 0 GPS, 1 BeiDou, 2 GLONASS.
 fn source(systems: Systems) -> u8
@@ -66,5 +66,10 @@ pub fn write_time_utc(fix: &CheckedFix, systems: Systems, out: &mut [u8]) -> Res
     ensures good { GoodFrame 0x01 0x10 (time_utc_payload systems.mask fix.now) }
     ensures tells { Tells (λ s f. frame 0x01 0x10 (time_utc_payload s f)) time_utc_numbers systems.mask fix.now }
 {
-    wire::write_frame(0x01, 0x10, &payload(fix, systems), out)
+    let frame = Frame {
+        class: 0x01,
+        id: 0x10,
+        payload: &payload(fix, systems),
+    };
+    frame.write(out)
 }

@@ -1,9 +1,9 @@
 -- What the code's answers stand for.
-use Rattle.std.specs.Prelude.{ℕ, ◌+◌, ◌<◌, ◌≤◌, max, List, [], ◌∷◌, length, drop}
+use Rattle.std.specs.Prelude.{ℕ, ◌+◌, ◌<◌, ◌≤◌, max, List, [], ◌∷◌, length, drop, Ok, Err, Result}
 use Rattle.wire.specs.declared.item.Item.{Item as Part}
 use Rattle.wire.specs.declared.item.Item.TheVariants.{Frame as FramePart, Sentence as SentencePart}
-use Rattle.wire.specs.declared.tries.Verdict.{Verdict}
-use Rattle.wire.specs.declared.tries.Verdict.TheVariants.{Good, Unfinished, Failed}
+use Rattle.wire.specs.declared.tries.Miss.{Miss}
+use Rattle.wire.specs.declared.tries.Miss.TheVariants.{Unfinished, Failed}
 use Rattle.wire.specs.declared.reading.Found.{Found}
 use Rattle.wire.specs.declared.reading.Found.TheVariants.{Good as FoundGood, Unfinished as FoundUnfinished, End}
 use Rattle.wire.specs.Items.{Item, frame_item, sentence_item, size}
@@ -15,11 +15,11 @@ abbrev pub item_of : Part → Item
 item_of (FramePart f) = frame_item f.class f.id f.payload.now
 item_of (SentencePart body) = sentence_item body.now
 
--- a verdict on a try
-abbrev pub seen : Verdict → Try
-seen (Good x) = good (item_of x)
-seen Unfinished = unfinished
-seen Failed = failed
+-- what a try came to
+abbrev pub seen : Result Part Miss → Try
+seen (Ok x) = good (item_of x)
+seen (Err Unfinished) = unfinished
+seen (Err Failed) = failed
 
 -- how many bytes a try spends
 abbrev pub spent : Try → ℕ

@@ -5,6 +5,15 @@ ghost use Rattle.wire.specs.Writes.{fitted};
 
 use crate::refusal::Refusal;
 
+// The parts of a form, at most 82 bytes together.
+#[derive(Clone, Copy)]
+pub struct Parts<'a> {
+    pub head: &'a [u8],
+    pub middle: &'a [u8],
+    pub tail: &'a [u8],
+    ghost few: { length head.now + length middle.now + length tail.now ≤ 82 },
+}
+
 // Copies `part` into `out` from `at` on.
 fn put(out: &mut [u8], at: usize, part: &[u8])
     requires { at + length part.now ≤ length out.old }
@@ -13,34 +22,34 @@ fn put(out: &mut [u8], at: usize, part: &[u8])
     out[at..at + part.len()].copy_from_slice(part);
 }
 
-// Copies three parts to the start of `out`, one behind the other.
-fn put_all(head: &[u8], middle: &[u8], tail: &[u8], out: &mut [u8])
-    requires { length head.now + length middle.now + length tail.now ≤ length out.old }
-    ensures { out.new ≡ (head.now ++ (middle.now ++ tail.now)) ++ drop (length (head.now ++ (middle.now ++ tail.now))) out.old }
-{
-    put(out, 0, head);
-    put(out, head.len(), middle);
-    put(out, head.len() + middle.len(), tail);
-}
-
-// How many bytes three parts have.
-fn size_of(head: &[u8], middle: &[u8], tail: &[u8]) -> usize
-    requires { length head.now + length middle.now + length tail.now ≤ 82 }
-    ensures sum { result ≡ length head.now + length middle.now + length tail.now }
-    ensures form { result ≡ length (head.now ++ (middle.now ++ tail.now)) }
-{
-    head.len() + middle.len() + tail.len()
-}
-
-// Writes three parts to the start of `out`, one behind the other, and gives their length.
-pub fn lay(head: &[u8], middle: &[u8], tail: &[u8], out: &mut [u8]) -> Result<usize, Refusal>
-    requires { length head.now + length middle.now + length tail.now ≤ 82 }
-    ensures { (result, out.new) ≡ fitted (head.now ++ (middle.now ++ tail.now)) out.old }
-{
-    let size = size_of(head, middle, tail);
-    if out.len() < size {
-        return Err(Refusal::OutputTooShort);
+impl Parts<'_> {
+    // How many bytes the parts have.
+    fn size(self) -> usize
+        ensures sum { result ≡ length self.entry.head.now + length self.entry.middle.now + length self.entry.tail.now }
+        ensures form { result ≡ length (self.entry.head.now ++ (self.entry.middle.now ++ self.entry.tail.now)) }
+    {
+        self.head.len() + self.middle.len() + self.tail.len()
     }
-    put_all(head, middle, tail, out);
-    Ok(size)
+
+    // Copies the parts to the start of `out`, one behind the other.
+    fn put(self, out: &mut [u8])
+        requires { length self.head.now + length self.middle.now + length self.tail.now ≤ length out.old }
+        ensures { out.new ≡ (self.entry.head.now ++ (self.entry.middle.now ++ self.entry.tail.now)) ++ drop (length (self.entry.head.now ++ (self.entry.middle.now ++ self.entry.tail.now))) out.old }
+    {
+        put(out, 0, self.head);
+        put(out, self.head.len(), self.middle);
+        put(out, self.head.len() + self.middle.len(), self.tail);
+    }
+
+    // Writes the parts to the start of `out`, one behind the other, and gives their length.
+    pub fn write(self, out: &mut [u8]) -> Result<usize, Refusal>
+        ensures { (result, out.new) ≡ fitted (self.entry.head.now ++ (self.entry.middle.now ++ self.entry.tail.now)) out.old }
+    {
+        let size = self.size();
+        if out.len() < size {
+            return Err(Refusal::OutputTooShort);
+        }
+        self.put(out);
+        Ok(size)
+    }
 }

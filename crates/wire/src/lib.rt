@@ -11,7 +11,6 @@ mod refusal;
 mod sentence;
 mod tries;
 
-pub use frame::{frame_sum, write_frame};
 pub use item::{Frame, Item};
 pub use laws::line_stands;
 pub use place::Place;

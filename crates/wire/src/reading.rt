@@ -5,7 +5,7 @@ ghost use Rattle.wire.specs.Seen.{seen, spent, Room, told, leaves, Stands};
 
 use crate::item::Item;
 use crate::place::Place;
-use crate::tries::{Verdict, try_here, without_more};
+use crate::tries::{Miss, try_here, without_more};
 
 // What follows the bytes: more may come, or a pause, at which every unfinished try fails.
 #[derive(Clone, Copy, Debug, PartialEq, Eq)]
@@ -15,26 +15,27 @@ pub enum Ending {
 }
 
 // What reading came to first: a good item and the place of its lead byte, an unfinished try's place, or the end.
-#[derive(Clone, Copy)]
+// Three cases by name: an `Option<Result<(usize, Item), usize>>` would have a name for none of them.
+#[derive(Clone, Copy, Debug, PartialEq, Eq)]
 pub enum Found<'a> {
     Good(usize, Item<'a>),
     Unfinished(usize),
     End,
 }
 
-// A verdict, with what follows the bytes.
-fn end_by(verdict: Verdict<'_>, ending: Ending) -> Verdict<'_>
-    ensures verdict { seen result ≡ ended_by ending (seen verdict.entry) }
-    ensures spends { spent (seen result) ≡ spent (seen verdict.entry) }
+// What a try came to, with what follows the bytes.
+fn end_by(tried: Result<Item<'_>, Miss>, ending: Ending) -> Result<Item<'_>, Miss>
+    ensures verdict { seen result ≡ ended_by ending (seen tried.entry) }
+    ensures spends { spent (seen result) ≡ spent (seen tried.entry) }
 {
     match ending {
-        Ending::More => verdict,
-        Ending::Pause => without_more(verdict),
+        Ending::More => tried,
+        Ending::Pause => without_more(tried),
     }
 }
 
 // A try at the bytes from the place on, with what follows them.
-fn try_at<'b>(bytes: &'b [u8], ending: Ending, place: &mut Place) -> Verdict<'b>
+fn try_at<'b>(bytes: &'b [u8], ending: Ending, place: &mut Place) -> Result<Item<'b>, Miss>
     requires { place.old.at < length bytes.now }
     ensures reads { reading ending bytes.now place.old.at ≡ onward ending bytes.now place.old.at (seen result) }
     ensures place { place.new.at ≡ place.old.at + spent (seen result) }
@@ -50,12 +51,13 @@ pub fn read_next<'b>(bytes: &'b [u8], ending: Ending, place: &mut Place) -> Foun
     ensures place { place.new.at ≡ leaves bytes.now place.old.at result }
     ensures stands { Stands bytes.now place.old.at result }
 {
+    // A `while`, since the place is the caller's and each try moves it: a `for` would count a second one beside it.
     while place.at < bytes.len() {
         let lead = place.at;
         match try_at(bytes, ending, place) {
-            Verdict::Good(item) => return Found::Good(lead, item),
-            Verdict::Unfinished => return Found::Unfinished(lead),
-            Verdict::Failed => place.at += 1,
+            Ok(item) => return Found::Good(lead, item),
+            Err(Miss::Unfinished) => return Found::Unfinished(lead),
+            Err(Miss::Failed) => place.at += 1,
         }
     }
     Found::End

@@ -4,9 +4,9 @@ ghost use Rattle.wire.specs.Writes.{number, refusal};
 
 #[derive(Clone, Copy, Debug, PartialEq, Eq)]
 pub enum Refusal {
-    PayloadLength,
-    Body,
-    OutputTooShort,
+    PayloadLength = 11,
+    Body = 12,
+    OutputTooShort = 13,
 }
 
 impl Refusal {
@@ -15,10 +15,6 @@ impl Refusal {
         ensures number { result ≡ number self }
         ensures back { refusal result ≡ self }
     {
-        match self {
-            Refusal::PayloadLength => 11,
-            Refusal::Body => 12,
-            Refusal::OutputTooShort => 13,
-        }
+        self as u8
     }
 }

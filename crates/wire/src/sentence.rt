@@ -1,10 +1,10 @@
 // A sentence: its checksum, and the writer.
-ghost use Rattle.std.specs.Prelude.{◌≡◌, ◌+◌, ◌<◌, ◌≤◌, length, drop};
+ghost use Rattle.std.specs.Prelude.{◌≡◌, ◌<◌, ◌≤◌, length};
 ghost use Rattle.std.specs.List.{prefix_len};
 ghost use Rattle.wire.specs.Sentences.{is_body, checksum, hex_digit};
 ghost use Rattle.wire.specs.Writes.{sentence_written};
 
-use crate::laying::lay;
+use crate::laying::Parts;
 use crate::refusal::Refusal;
 
 fn is_body(b: u8) -> bool
@@ -13,31 +13,19 @@ fn is_body(b: u8) -> bool
     b >= b' ' && b <= b'~' && b != b'$' && b != b'*'
 }
 
-// How many body bytes stand from a place on.
-pub fn body_run(bytes: &[u8], from: usize) -> usize
-    requires { from ≤ length bytes.now }
-    ensures run { result ≡ prefix_len is_body (drop from bytes.now) }
-    ensures within { from + result ≤ length bytes.now }
+// How many body bytes stand at the front.
+pub fn body_run(bytes: &[u8]) -> usize
+    ensures run { result ≡ prefix_len is_body bytes.now }
+    ensures within { result ≤ length bytes.now }
 {
-    let mut at = from;
-    while at < bytes.len() {
-        if !is_body(bytes[at]) {
-            return at - from;
-        }
-        at += 1;
-    }
-    at - from
+    bytes.iter().take_while(|b| is_body(**b)).count()
 }
 
 // The exclusive or of the bytes.
 pub fn checksum_of(body: &[u8]) -> u8
     ensures { result ≡ checksum body.now }
 {
-    let mut all = 0;
-    for b in body {
-        all ^= *b;
-    }
-    all
+    body.iter().fold(0, |all, b| all ^ *b)
 }
 
 pub fn hex_digit(n: u8) -> u8
@@ -52,10 +40,14 @@ pub fn write_sentence(body: &[u8], out: &mut [u8]) -> Result<usize, Refusal>
     ensures { (result, out.new) ≡ sentence_written body.now out.old }
 {
     let len = body.len();
-    if len > 76 || body_run(body, 0) != len {
+    if len > 76 || body_run(body) != len {
         return Err(Refusal::Body);
     }
     let sum = checksum_of(body);
-    let ending = [b'*', hex_digit(sum / 16), hex_digit(sum % 16), b'\r', b'\n'];
-    lay(b"$", body, &ending, out)
+    let form = Parts {
+        head: b"$",
+        middle: body,
+        tail: &[b'*', hex_digit(sum / 16), hex_digit(sum % 16), b'\r', b'\n'],
+    };
+    form.write(out)
 }

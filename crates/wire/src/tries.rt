@@ -1,10 +1,11 @@
 // A try at what begins with a lead byte.
-ghost use Rattle.std.specs.Prelude.{◌≡◌, ◌+◌, ◌^◌, ◌<◌, ◌≤◌, length, take, drop};
+ghost use Rattle.std.specs.Prelude.{◌≡◌, ◌+◌, ◌^◌, ◌<◌, ◌≤◌, length, take, drop, if◌then◌else◌, OnOk, Ok, Err, nat_lt, slice_index};
 ghost use Rattle.numbers.specs.Bytes.{bytes4};
-ghost use Rattle.wire.specs.Tries.{stand, length_of, frame_try, is_digit, star_of, body_to, digits_stand, from_star, ended, sentence_try, try_of};
+ghost use Rattle.wire.specs.Tries.{stand, frame_try, is_digit, star_of, body_to, digits_stand, from_cr, from_star, ended, sentence_try, try_of};
 ghost use Rattle.wire.specs.Seen.{seen, spent};
+ghost use Rattle.wire.specs.declared.tries.Miss.TheVariants.{Unfinished};
 
-use crate::frame::{LEAD, frame_sum};
+use crate::frame::LEAD;
 use crate::item::{Frame, Item};
 use crate::place::{Attempt, Place};
 use crate::sentence::{body_run, checksum_of, hex_digit};
@@ -12,11 +13,18 @@ use crate::sentence::{body_run, checksum_of, hex_digit};
 // The longest sentence, in bytes.
 const LONGEST: usize = 82;
 
-#[derive(Clone, Copy)]
-pub enum Verdict<'a> {
-    Good(Item<'a>),
+// Why a try came to no item: the bytes ran out before a rule was broken, or one is broken.
+#[derive(Clone, Copy, Debug, PartialEq, Eq)]
+pub enum Miss {
     Unfinished,
     Failed,
+}
+
+// The byte at a place, once it is there.
+fn byte(bytes: &[u8], i: usize) -> Result<u8, Miss>
+    ensures { result ≡ (if nat_lt i (length bytes.now) then Ok (slice_index bytes.now i) else Err Unfinished) }
+{
+    bytes.get(i).copied().ok_or(Miss::Unfinished)
 }
 
 // Whether the four bytes of `sum` stand at a place.
@@ -24,16 +32,7 @@ fn stands(bytes: &[u8], at: usize, sum: u32) -> bool
     requires { at + 4 ≤ length bytes.now }
     ensures { result ≡ stand bytes.now at (bytes4 sum) }
 {
-    let [a, b, c, d] = sum.to_le_bytes();
-    bytes[at] == a && bytes[at + 1] == b && bytes[at + 2] == c && bytes[at + 3] == d
-}
-
-// The payload length that a frame's first four bytes tell.
-fn length_of(bytes: &[u8]) -> usize
-    requires { 4 ≤ length bytes.now }
-    ensures { result ≡ length_of bytes.now }
-{
-    u16::from_le_bytes([bytes[2], bytes[3]]) as usize
+    &bytes[at..at + 4] == sum.to_le_bytes().as_slice()
 }
 
 // The part that starts after the header.
@@ -46,45 +45,35 @@ fn payload_of(bytes: &[u8], len: usize) -> &[u8]
 }
 
 // A try at a frame, of which the lead byte is there.
-fn try_frame<'b>(bytes: &'b [u8], place: &mut Place) -> Verdict<'b>
+fn try_frame<'b>(bytes: &'b [u8], place: &mut Place) -> Result<Item<'b>, Miss>
     requires { place.old.at + length bytes.now < 2 ^ 64 }
     ensures verdict { seen result ≡ frame_try bytes.now }
     ensures place { place.new.at ≡ place.old.at + spent (seen result) }
 {
-    let lead = place.at;
-    let mut attempt = Attempt {
-        place,
-        lead,
-        accepted: false,
-    };
-    if bytes.len() < 2 {
-        return Verdict::Unfinished;
-    }
-    if bytes[1] != LEAD[1] {
-        return Verdict::Failed;
+    let mut attempt = Attempt::begin(place);
+    if byte(bytes, 1)? != LEAD[1] {
+        return Err(Miss::Failed);
     }
     attempt.place.at += 2;
-    if bytes.len() < 4 {
-        return Verdict::Unfinished;
-    }
-    let len = length_of(bytes);
+    let high = byte(bytes, 3)?;
+    let len = u16::from_le_bytes([bytes[2], high]) as usize;
     attempt.place.at += 2;
     if len % 4 != 0 || len > 64 {
-        return Verdict::Failed;
+        return Err(Miss::Failed);
     }
-    if bytes.len() < len + 10 {
-        return Verdict::Unfinished;
-    }
-    let class = bytes[4];
-    let id = bytes[5];
-    let payload = payload_of(bytes, len);
+    byte(bytes, len + 9)?;
+    let frame = Frame {
+        class: bytes[4],
+        id: bytes[5],
+        payload: payload_of(bytes, len),
+    };
     attempt.place.at += 2 + len;
-    if !stands(bytes, len + 6, frame_sum(class, id, payload)) {
-        return Verdict::Failed;
+    if !stands(bytes, len + 6, frame.sum()) {
+        return Err(Miss::Failed);
     }
     attempt.place.at += 4;
     attempt.accepted = true;
-    Verdict::Good(Item::Frame(Frame { class, id, payload }))
+    Ok(Item::Frame(frame))
 }
 
 fn is_digit(b: u8) -> bool
@@ -111,70 +100,54 @@ fn digits_stand(bytes: &[u8], star: usize) -> bool
     bytes[star + 1] == hex_digit(sum / 16) && bytes[star + 2] == hex_digit(sum % 16)
 }
 
+// The sentence whose two digits are there, once CR and LF are; the digits' value is judged at LF.
+fn from_cr(bytes: &[u8], star: usize) -> Result<Item<'_>, Miss>
+    requires { (1 ≤ star) × (star + 3 ≤ length bytes.now) }
+    ensures verdict { seen result ≡ from_cr bytes.now star }
+    ensures long { OnOk result (spent (seen result) ≡ star + 5) }
+    ensures within { OnOk result (star + 5 ≤ length bytes.now) }
+{
+    if byte(bytes, star + 3)? != b'\r' {
+        return Err(Miss::Failed);
+    }
+    if byte(bytes, star + 4)? != b'\n' || !digits_stand(bytes, star) {
+        return Err(Miss::Failed);
+    }
+    Ok(Item::Sentence(body_to(bytes, star)))
+}
+
 // A try at a sentence's bytes up to its longest size.
-fn try_sized<'b>(bytes: &'b [u8], place: &mut Place) -> Verdict<'b>
+fn try_sized<'b>(bytes: &'b [u8], place: &mut Place) -> Result<Item<'b>, Miss>
     requires { (0 < length bytes.now) × (place.old.at + length bytes.now < 2 ^ 64) }
     ensures verdict { seen result ≡ from_star bytes.now (star_of bytes.now) }
     ensures place { place.new.at ≡ place.old.at + spent (seen result) }
 {
-    let lead = place.at;
-    let mut attempt = Attempt {
-        place,
-        lead,
-        accepted: false,
-    };
-    let star = 1 + body_run(bytes, 1);
+    let mut attempt = Attempt::begin(place);
+    let star = 1 + body_run(&bytes[1..]);
     attempt.place.at += star;
-    if bytes.len() <= star {
-        return Verdict::Unfinished;
+    if byte(bytes, star)? != b'*' {
+        return Err(Miss::Failed);
     }
-    if bytes[star] != b'*' {
-        return Verdict::Failed;
-    }
-    if bytes.len() <= star + 1 {
-        return Verdict::Unfinished;
-    }
-    if !is_digit(bytes[star + 1]) {
-        return Verdict::Failed;
-    }
-    if bytes.len() <= star + 2 {
-        return Verdict::Unfinished;
-    }
-    if !is_digit(bytes[star + 2]) {
-        return Verdict::Failed;
+    if !is_digit(byte(bytes, star + 1)?) || !is_digit(byte(bytes, star + 2)?) {
+        return Err(Miss::Failed);
     }
     attempt.place.at += 3;
-    if bytes.len() <= star + 3 {
-        return Verdict::Unfinished;
-    }
-    if bytes[star + 3] != b'\r' {
-        return Verdict::Failed;
-    }
-    if bytes.len() <= star + 4 {
-        return Verdict::Unfinished;
-    }
-    if bytes[star + 4] != b'\n' || !digits_stand(bytes, star) {
-        return Verdict::Failed;
-    }
+    let item = from_cr(bytes, star)?;
     attempt.place.at += 2;
     attempt.accepted = true;
-    Verdict::Good(Item::Sentence(body_to(bytes, star)))
+    Ok(item)
 }
 
-// A verdict where no more bytes are waited for.
-pub fn without_more(verdict: Verdict<'_>) -> Verdict<'_>
-    ensures verdict { seen result ≡ ended (seen verdict.entry) }
-    ensures spends { spent (seen result) ≡ spent (seen verdict.entry) }
+// What a try came to, where no more bytes are waited for.
+pub fn without_more(tried: Result<Item<'_>, Miss>) -> Result<Item<'_>, Miss>
+    ensures verdict { seen result ≡ ended (seen tried.entry) }
+    ensures spends { spent (seen result) ≡ spent (seen tried.entry) }
 {
-    match verdict {
-        Verdict::Good(item) => Verdict::Good(item),
-        Verdict::Unfinished => Verdict::Failed,
-        Verdict::Failed => Verdict::Failed,
-    }
+    tried.or(Err(Miss::Failed))
 }
 
 // A try at a sentence, of which the lead byte is there.
-fn try_sentence<'b>(bytes: &'b [u8], place: &mut Place) -> Verdict<'b>
+fn try_sentence<'b>(bytes: &'b [u8], place: &mut Place) -> Result<Item<'b>, Miss>
     requires { (0 < length bytes.now) × (place.old.at + length bytes.now < 2 ^ 64) }
     ensures verdict { seen result ≡ sentence_try bytes.now }
     ensures place { place.new.at ≡ place.old.at + spent (seen result) }
@@ -186,15 +159,15 @@ fn try_sentence<'b>(bytes: &'b [u8], place: &mut Place) -> Verdict<'b>
 }
 
 // A try at whatever begins at the place.
-pub fn try_here<'b>(bytes: &'b [u8], place: &mut Place) -> Verdict<'b>
+pub fn try_here<'b>(bytes: &'b [u8], place: &mut Place) -> Result<Item<'b>, Miss>
     requires { place.old.at + length bytes.now < 2 ^ 64 }
     ensures verdict { seen result ≡ try_of bytes.now }
     ensures place { place.new.at ≡ place.old.at + spent (seen result) }
 {
     match bytes {
-        [] => Verdict::Unfinished,
+        [] => Err(Miss::Unfinished),
         [0xba, ..] => try_frame(bytes, place),
         [b'$', ..] => try_sentence(bytes, place),
-        _ => Verdict::Failed,
+        _ => Err(Miss::Failed),
     }
 }

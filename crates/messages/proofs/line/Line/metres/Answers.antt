@@ -1,8 +1,8 @@
 use Rattle.std.proofs.Common.{◌/◌, ◌≤◌, length, decimal, append_assoc, arith, rules}
 use Rattle.std.proofs.lemmas.Fmt.{length-decimal-le}
 use Rattle.std.proofs.lemmas.Int.{ints}
-use Rattle.messages.specs.Decimals.{pointed}
-use Rattle.messages.specs.Fields.{metres_text}
+use Rattle.bodies.specs.Decimals.{pointed}
+use Rattle.bodies.specs.Fields.{metres_text}
 use Rattle.messages.proofs.line.Line.metres.Goals as goal
 
 pub pointed-requires : goal.pointed-requires

@@ -1,6 +1,6 @@
 use Rattle.std.proofs.Common.{◌/◌, append_assoc, arith, rules}
 use Rattle.std.proofs.lemmas.Fmt.{length-decimal-le}
-use Rattle.messages.specs.Decimals.{pointed}
+use Rattle.bodies.specs.Decimals.{pointed}
 use Rattle.messages.proofs.line.Line.thousandths.Goals as goal
 
 pub pointed-requires : goal.pointed-requires

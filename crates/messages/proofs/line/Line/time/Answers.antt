@@ -1,5 +1,5 @@
 use Rattle.std.proofs.Common.{append_assoc, arith, rules}
-use Rattle.messages.specs.Fields.{time_text}
+use Rattle.bodies.specs.Fields.{time_text}
 use Rattle.messages.proofs.line.Line.time.Goals as goal
 
 pub returns : goal.returns
