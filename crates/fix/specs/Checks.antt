@@ -1,5 +1,5 @@
 -- What the check answers.
-use Rattle.std.specs.Prelude.{ℕ, cond, ◌&&◌, Ok, Err, Result, nat_le}
+use Rattle.std.specs.Prelude.{◌≡◌, ℕ, Bool, true, false, cond, ◌&&◌, Ok, Err, Result, MatchResult, nat_le}
 use Rattle.std.specs.Option.{option_map}
 use Rattle.fix.specs.declared.Date.{Date}
 use Rattle.fix.specs.declared.Time.{Time}
@@ -39,14 +39,18 @@ abbrev pub number_of : Refusal → ℕ
 number_of DateOrTime = 4
 number_of OutOfRange = 5
 
--- an answer of the check: the numbers of the checked fix, or the refusal's number
-abbrev pub answer_of : Result CheckedFix Refusal → Result Fix ℕ
+-- r is a lawful x with its own numbers, or the refusal of an x that is not lawful
+abbrev pub Checks : {A B : Type 0} → (A → Bool) → (B → A) → Refusal → A → Result B Refusal → Type 0
+Checks lawful numbers refusal x r = MatchResult r (λ y. (lawful x ≡ true) × (numbers y ≡ x)) (λ e. (lawful x ≡ false) × (e ≡ refusal))
+
+-- an answer of the check: the numbers of the checked fix, or the refusal
+abbrev pub answer_of : Result CheckedFix Refusal → Result Fix Refusal
 answer_of (Ok f) = Ok (fix_of f)
-answer_of (Err e) = Err (number_of e)
+answer_of (Err e) = Err e
 
 -- date and time come first; a fix in range is answered with its own numbers
-abbrev pub check_answer : Fix → Result Fix ℕ
+abbrev pub check_answer : Fix → Result Fix Refusal
 check_answer f =
     cond (lawful_date f.date && lawful_time f.time)
-    (cond (nat_le f.satellites 24 && lawful_place f.position) (Ok f) (Err 5))
-    (Err 4)
+    (cond (nat_le f.satellites 24 && lawful_place f.position) (Ok f) (Err OutOfRange))
+    (Err DateOrTime)

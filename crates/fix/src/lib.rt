@@ -1,12 +1,12 @@
 // A fix as it is handed over, and the check that makes a fix in range of it.
 #![tactic(auto)]
 
-ghost use Rattle.std.specs.Prelude.{◌≡◌, ◌^◌, ◌<◌, true, false, MatchResult, nat_le};
+ghost use Rattle.std.specs.Prelude.{◌≡◌, nat_le};
 ghost use Rattle.std.specs.Option.{option_map};
 ghost use Rattle.fix.specs.Calendar.{leap, month_length};
 ghost use Rattle.fix.specs.Ranges.{lawful_date, lawful_time, lawful_position, lawful_place};
 ghost use Rattle.fix.specs.declared.Refusal.TheVariants.{DateOrTime, OutOfRange};
-ghost use Rattle.fix.specs.Checks.{date_of, time_of, position_of, number_of, answer_of, check_answer};
+ghost use Rattle.fix.specs.Checks.{Checks, date_of, time_of, position_of, number_of, answer_of, check_answer};
 
 mod checked;
 
@@ -54,13 +54,14 @@ pub struct Fix {
 }
 
 // Why a fix is refused, with its number.
-#[derive(Clone, Copy, PartialEq, Debug)]
+#[derive(Clone, Copy, PartialEq, Eq, Debug)]
 pub enum Refusal {
     DateOrTime = 4,
     OutOfRange = 5,
 }
 
 impl Refusal {
+    // A From for u8 would be no plainer: it would not say which number is meant.
     pub fn number(self) -> u8
         ensures { result ≡ number_of self }
     {
@@ -86,12 +87,14 @@ fn month_length(year: u16, month: u8) -> u8
     }
 }
 
-impl Date {
+impl TryFrom<Date> for CheckedDate {
+    type Error = Refusal;
+
     // The date, if the calendar has it from 1999 to 2099.
-    fn checked(self) -> Result<CheckedDate, Refusal>
-        ensures { MatchResult result (λ d. (lawful_date self ≡ true) × (date_of d ≡ self)) (λ e. (lawful_date self ≡ false) × (e ≡ DateOrTime)) }
-    {
-        let Date { year, month, day } = self;
+    ghost try_from_gives = { Checks lawful_date date_of DateOrTime };
+
+    fn try_from(date: Date) -> Result<CheckedDate, Refusal> {
+        let Date { year, month, day } = date;
         if year < 1999 || year > 2099 || month < 1 || month > 12 {
             return Err(Refusal::DateOrTime);
         }
@@ -102,17 +105,19 @@ impl Date {
     }
 }
 
-impl Time {
+impl TryFrom<Time> for CheckedTime {
+    type Error = Refusal;
+
     // The time, if a day has it.
-    fn checked(self) -> Result<CheckedTime, Refusal>
-        ensures { MatchResult result (λ t. (lawful_time self ≡ true) × (time_of t ≡ self)) (λ e. (lawful_time self ≡ false) × (e ≡ DateOrTime)) }
-    {
+    ghost try_from_gives = { Checks lawful_time time_of DateOrTime };
+
+    fn try_from(time: Time) -> Result<CheckedTime, Refusal> {
         let Time {
             hour,
             minute,
             second,
             ms,
-        } = self;
+        } = time;
         if hour > 23 || minute > 59 || second > 59 || ms > 999 {
             return Err(Refusal::DateOrTime);
         }
@@ -125,11 +130,13 @@ impl Time {
     }
 }
 
-impl Position {
+impl TryFrom<Position> for CheckedPosition {
+    type Error = Refusal;
+
     // The position, if each of its numbers is in range.
-    fn checked(self) -> Result<CheckedPosition, Refusal>
-        ensures { MatchResult result (λ p. (lawful_position self ≡ true) × (position_of p ≡ self)) (λ e. (lawful_position self ≡ false) × (e ≡ OutOfRange)) }
-    {
+    ghost try_from_gives = { Checks lawful_position position_of OutOfRange };
+
+    fn try_from(position: Position) -> Result<CheckedPosition, Refusal> {
         let Position {
             latitude,
             longitude,
@@ -137,7 +144,7 @@ impl Position {
             speed,
             course,
             hdop,
-        } = self;
+        } = position;
         if latitude < -54_000_000
             || latitude > 54_000_000
             || longitude < -108_000_000
@@ -164,7 +171,7 @@ impl Position {
 
 // The number of satellites, if it is in range.
 fn checked_satellites(count: u8) -> Result<u8, Refusal>
-    ensures { MatchResult result (λ n. (nat_le count 24 ≡ true) × (n ≡ count)) (λ e. (nat_le count 24 ≡ false) × (e ≡ OutOfRange)) }
+    ensures { Checks (λ n. nat_le n 24) (λ n. n) OutOfRange count result }
 {
     if count > 24 {
         return Err(Refusal::OutOfRange);
@@ -174,36 +181,37 @@ fn checked_satellites(count: u8) -> Result<u8, Refusal>
 
 // The position, if there is one, in range.
 fn checked_place(place: Option<Position>) -> Result<Option<CheckedPosition>, Refusal>
-    ensures { MatchResult result (λ p. (lawful_place place ≡ true) × (option_map position_of p ≡ place)) (λ e. (lawful_place place ≡ false) × (e ≡ OutOfRange)) }
+    ensures { Checks lawful_place (option_map position_of) OutOfRange place result }
 {
-    match place {
-        Some(position) => Ok(Some(position.checked()?)),
-        None => Ok(None),
+    place.map(CheckedPosition::try_from).transpose()
+}
+
+impl TryFrom<Fix> for CheckedFix {
+    type Error = Refusal;
+
+    // The fix, if every number is in its range; a wrong date or time is told first.
+    ghost try_from_gives = { λ fix r. answer_of r ≡ check_answer fix };
+
+    fn try_from(fix: Fix) -> Result<CheckedFix, Refusal> {
+        let date = fix.date.try_into()?;
+        let time = fix.time.try_into()?;
+        let satellites = checked_satellites(fix.satellites)?;
+        let position = checked_place(fix.position)?;
+        Ok(CheckedFix {
+            date,
+            time,
+            run_time: fix.run_time,
+            time_accuracy: fix.time_accuracy,
+            ms_error: fix.ms_error,
+            satellites,
+            position,
+        })
     }
 }
 
-// A number of four bytes.
-fn word(n: u32) -> u32
-    ensures { (result ≡ n) × (result < 2 ^ 32) }
-{
-    n
-}
-
-// The fix, if every number is in its range; a wrong date or time is told first.
+// The same of a fix that stays with its owner.
 pub fn check(fix: &Fix) -> Result<CheckedFix, Refusal>
     ensures { answer_of result ≡ check_answer fix.now }
 {
-    let date = fix.date.checked()?;
-    let time = fix.time.checked()?;
-    let satellites = checked_satellites(fix.satellites)?;
-    let position = checked_place(fix.position)?;
-    Ok(CheckedFix {
-        date,
-        time,
-        run_time: word(fix.run_time),
-        time_accuracy: word(fix.time_accuracy),
-        ms_error: word(fix.ms_error),
-        satellites,
-        position,
-    })
+    CheckedFix::try_from(*fix)
 }
