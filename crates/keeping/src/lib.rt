@@ -38,11 +38,12 @@ pub fn load_section<M: SettingsMemory>(
     ensures counts { counts settings.new ≡ counts_loaded (counts settings.old) section }
 {
     let mut buffer = [0; 56];
+    // Tried with and_then: its closure writes to the settings, and the proof did not close.
     let taken = match memory::kept_string(memory, section.number(), &mut buffer)? {
         Some(string) => settings.take_string(section, string),
-        None => false,
+        None => None,
     };
-    if !taken {
+    if taken.is_none() {
         settings.restore(section);
     }
     Ok(())

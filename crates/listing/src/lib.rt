@@ -37,11 +37,8 @@ pub fn named(section: Section, string: &[u8]) -> Option<Settings>
     ensures counts { option_map counts result ≡ (if is_kept section string.now then Some (replicate 5 0) else None) }
 {
     let mut settings = Settings::factory();
-    if settings.take_string(section, string) {
-        Some(settings)
-    } else {
-        None
-    }
+    settings.take_string(section, string)?;
+    Some(settings)
 }
 
 // The word for a section.

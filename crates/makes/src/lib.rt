@@ -65,7 +65,7 @@ pub fn keep_both(
 pub fn has_section(number: u8) -> bool
     ensures { result ≡ known number }
 {
-    Section::of_number(number).is_some()
+    Section::try_from(number).is_ok()
 }
 
 #[cfg(test)]

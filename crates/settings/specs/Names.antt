@@ -2,6 +2,7 @@
 use Rattle.std.specs.Prelude.{ℕ, cond, Some, None, Option, ◌==◌}
 use Rattle.settings.specs.declared.names.Section.{Section}
 use Rattle.settings.specs.declared.names.Section.TheVariants.{Port, Messages, Navigation, Pulse, Group}
+use Rattle.settings.specs.declared.names.UnknownSection.{UnknownSection}
 use Rattle.settings.specs.declared.names.Message.{Message}
 use Rattle.settings.specs.declared.names.Message.TheVariants.{Gga, Gll, Rmc, Zda, TimeUtc}
 
@@ -17,6 +18,10 @@ number Group = 5
 abbrev pub section_at : ℕ → Option Section
 section_at n =
     cond (n == 0) (Some Port) (cond (n == 1) (Some Messages) (cond (n == 3) (Some Navigation) (cond (n == 4) (Some Pulse) (cond (n == 5) (Some Group) None))))
+
+-- the error that holds a number
+abbrev pub unknown : ℕ → UnknownSection
+unknown n = record { 0 = n }
 
 -- the place of a message's entry in the table, and of its rate in the kept string
 abbrev pub place : Message → ℕ

@@ -1,6 +1,5 @@
 // Settings at the factory, set one by one, and counted at a fix.
-ghost use Rattle.std.specs.Prelude.{◌≡◌, ℕ, length, get_or, replicate, ◌≢◌, slice_index, slice_index_or};
-ghost use Rattle.settings.specs.Bytes.{five_of};
+ghost use Rattle.std.specs.Prelude.{◌≡◌, ℕ, length, get_or, replicate, ◌≢◌, slice_index, slice_set};
 ghost use Rattle.settings.specs.Names.{place};
 ghost use Rattle.settings.specs.Values.{values, counts, rates_in, counts_in, factory};
 ghost use Rattle.settings.specs.Entries.{next_count, is_due};
@@ -35,40 +34,40 @@ impl Entry {
 impl Messages {
     // A table whose five rates have just come into force.
     pub fn new(rates: [u8; 5]) -> Messages
-        ensures rates { rates_in result.entries ≡ five_of rates }
+        ensures rates { rates_in result.entries ≡ rates }
         ensures counts { counts_in result.entries ≡ replicate 5 0 }
-        ensures size { length result.entries ≡ 5 }
     {
         Messages {
-            entries: [
-                Entry::new(rates[0]),
-                Entry::new(rates[1]),
-                Entry::new(rates[2]),
-                Entry::new(rates[3]),
-                Entry::new(rates[4]),
-            ],
+            entries: rates.map(Entry::new),
         }
+    }
+
+    // The five rates.
+    pub fn rates(&self) -> [u8; 5]
+        ensures { result ≡ rates_in self.now.entries }
+    {
+        self.entries.map(|entry| entry.rate)
     }
 
     // Brings the rate of one message into force.
     fn set_rate(&mut self, message: Message, rate: u8)
-        ensures size { length self.new.entries ≡ length self.old.entries }
-        ensures rate { (d : Entry) → (get_or self.new.entries (place message) d).rate ≡ rate }
-        ensures count { (d : Entry) → (get_or self.new.entries (place message) d).count ≡ 0 }
-        ensures others { (k : ℕ) (d : Entry) → (k ≢ place message) → slice_index_or self.new.entries k d ≡ slice_index_or self.old.entries k d }
+        ensures rates { rates_in self.new.entries ≡ slice_set (rates_in self.old.entries) (place message) rate }
+        ensures counts { counts_in self.new.entries ≡ slice_set (counts_in self.old.entries) (place message) 0 }
     {
         self.entries[message.place()] = Entry::new(rate);
     }
 
     // Counts a fix for one message, and says whether the message goes out at it.
     fn advance(&mut self, message: Message) -> bool
-        ensures size { length self.new.entries ≡ length self.old.entries }
-        ensures rate { (d : Entry) → (get_or self.new.entries (place message) d).rate ≡ (get_or self.old.entries (place message) d).rate }
-        ensures count { (d : Entry) → (get_or self.new.entries (place message) d).count ≡ next_count (get_or self.old.entries (place message) d).rate (get_or self.old.entries (place message) d).count }
-        ensures others { (k : ℕ) (d : Entry) → (k ≢ place message) → slice_index_or self.new.entries k d ≡ slice_index_or self.old.entries k d }
-        ensures due { (d : Entry) → result ≡ is_due (get_or self.old.entries (place message) d).rate (get_or self.old.entries (place message) d).count }
+        ensures rates { rates_in self.new.entries ≡ rates_in self.old.entries }
+        ensures counts { counts_in self.new.entries ≡ counts_fixed (rates_in self.old.entries) (counts_in self.old.entries) (place message) }
+        ensures due { result ≡ is_due (slice_index (rates_in self.old.entries) (place message)) (slice_index (counts_in self.old.entries) (place message)) }
     {
-        self.entries[message.place()].advance()
+        let place = message.place();
+        let mut entry = self.entries[place];
+        let due = entry.advance();
+        self.entries[place] = entry;
+        due
     }
 }
 

@@ -7,5 +7,5 @@ mod sections;
 mod strings;
 mod values;
 
-pub use names::{Message, Section};
+pub use names::{Message, Section, UnknownSection};
 pub use values::{Baud, Entry, Group, Interval, Messages, Pulse, Setting, Settings, Systems};

@@ -1,6 +1,7 @@
 // The five sections and the five messages by name.
 ghost use Rattle.std.specs.Prelude.{◌≡◌};
-ghost use Rattle.settings.specs.Names.{place, number, section_at};
+ghost use Rattle.std.specs.Option.{ok_or};
+ghost use Rattle.settings.specs.Names.{place, number, section_at, unknown};
 
 // A section of the settings, kept as one string.
 #[derive(Clone, Copy, PartialEq, Eq, Debug)]
@@ -32,24 +33,32 @@ impl Section {
         Section::Group,
     ];
 
-    // The number by which a memory knows the section.
+    // The number by which a memory knows the section; a From for u8 would be no plainer: it would not say which number is meant.
     pub fn number(self) -> u8
         ensures { result ≡ number self }
     {
         self as u8
     }
+}
+
+// A number that no section has.
+#[derive(Clone, Copy, PartialEq, Eq, Debug)]
+pub struct UnknownSection(pub u8);
+
+impl TryFrom<u8> for Section {
+    type Error = UnknownSection;
 
     // The section of a number.
-    pub fn of_number(number: u8) -> Option<Section>
-        ensures { result ≡ section_at number }
-    {
+    ghost try_from_gives = { λ number r. r ≡ ok_or (section_at number) (unknown number) };
+
+    fn try_from(number: u8) -> Result<Section, UnknownSection> {
         match number {
-            0 => Some(Section::Port),
-            1 => Some(Section::Messages),
-            3 => Some(Section::Navigation),
-            4 => Some(Section::Pulse),
-            5 => Some(Section::Group),
-            _ => None,
+            0 => Ok(Section::Port),
+            1 => Ok(Section::Messages),
+            3 => Ok(Section::Navigation),
+            4 => Ok(Section::Pulse),
+            5 => Ok(Section::Group),
+            _ => Err(UnknownSection(number)),
         }
     }
 }

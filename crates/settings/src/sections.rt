@@ -1,15 +1,15 @@
 // The kept string of each section of the settings, and a section read back.
-ghost use Rattle.std.specs.Prelude.{◌≡◌, ◌≤◌, ◌++◌, length, take, drop, if◌then◌else◌, Some};
+ghost use Rattle.std.specs.Prelude.{◌≡◌, ◌≤◌, ◌++◌, length, take, drop, if◌then◌else◌, is_some, Some};
 ghost use Rattle.std.specs.Option.{unwrap_or};
 ghost use Rattle.settings.specs.Values.{values, counts, rates_in, factory};
 ghost use Rattle.settings.specs.Strings.{kept_string, is_kept, with_section, read_back};
 ghost use Rattle.settings.specs.Changes.{counts_loaded};
 
 use crate::names::Section;
-use crate::strings::{read_group, read_messages, read_navigation, read_port};
-use crate::values::{Messages, Pulse, Settings};
+use crate::strings::{read_messages, read_navigation, read_port};
+use crate::values::{Group, Messages, Pulse, Settings};
 
-// Writes a string over the start of a buffer, and gives its length.
+// Writes a string over the start of a buffer, and gives its length; the buffer is the caller's, as everywhere on the card.
 fn put(out: &mut [u8; 56], string: &[u8]) -> usize
     requires { length string.now ≤ 56 }
     ensures size { result ≡ length string.now }
@@ -20,22 +20,12 @@ fn put(out: &mut [u8; 56], string: &[u8]) -> usize
     n
 }
 
-impl Messages {
-    // The five rates.
-    fn rates(&self) -> [u8; 5]
-        requires { length self.now.entries ≡ 5 }
-        ensures { result ≡ rates_in self.now.entries }
-    {
-        let [gga, gll, rmc, zda, utc] = self.entries;
-        [gga.rate, gll.rate, rmc.rate, zda.rate, utc.rate]
-    }
-}
-
 impl Settings {
-    // Writes a section's string over the start of a buffer, and gives its length.
-    fn write_string(&self, section: Section, out: &mut [u8; 56]) -> usize
+    // The kept string of a section, over the start of a buffer, and its length; read back, it names the same settings.
+    pub fn kept_string(&self, section: Section, out: &mut [u8; 56]) -> usize
         ensures size { result ≡ length (kept_string (values self.now) section) }
         ensures out { out.new ≡ kept_string (values self.now) section ++ drop (length (kept_string (values self.now) section)) out.old }
+        ensures back { read_back (values self.now) section (take result out.new) ≡ Some (values self.now) }
     {
         match section {
             Section::Port => put(out, &[self.baud.code]),
@@ -48,50 +38,25 @@ impl Settings {
             Section::Group => put(out, &self.group.bytes),
         }
     }
-}
 
-impl Settings {
-    // The kept string of a section, over the start of a buffer, and its length; read back, it names the same settings.
-    pub fn kept_string(&self, section: Section, out: &mut [u8; 56]) -> usize
-        ensures size { result ≡ length (kept_string (values self.now) section) }
-        ensures out { out.new ≡ kept_string (values self.now) section ++ drop (length (kept_string (values self.now) section)) out.old }
-        ensures back { read_back (values self.now) section (take result out.new) ≡ Some (values self.now) }
-    {
-        self.write_string(section, out)
-    }
-
-    // Brings a section's settings into force as a string names them; false where the string is no kept value.
-    pub fn take_string(&mut self, section: Section, string: &[u8]) -> bool
-        ensures answer { result ≡ is_kept section string.now }
+    // Brings a section's settings into force as a string names them; none where the string is no kept value.
+    pub fn take_string(&mut self, section: Section, string: &[u8]) -> Option<()>
+        ensures answer { is_some result ≡ is_kept section string.now }
         ensures values { values self.new ≡ unwrap_or (read_back (values self.old) section string.now) (values self.old) }
-        ensures counts { counts self.new ≡ (if result then counts_loaded (counts self.old) section else counts self.old) }
+        ensures counts { counts self.new ≡ (if is_some result then counts_loaded (counts self.old) section else counts self.old) }
     {
         match section {
-            Section::Port => match read_port(string) {
-                Some(baud) => self.baud = baud,
-                None => return false,
-            },
-            Section::Messages => match read_messages(string) {
-                Some(rates) => self.messages = Messages::new(rates),
-                None => return false,
-            },
-            Section::Navigation => match read_navigation(string) {
-                Some(navigation) => {
-                    self.interval = navigation.interval;
-                    self.systems = navigation.systems;
-                }
-                None => return false,
-            },
-            Section::Pulse => match Pulse::read(string) {
-                Some(pulse) => self.pulse = pulse,
-                None => return false,
-            },
-            Section::Group => match read_group(string) {
-                Some(group) => self.group = group,
-                None => return false,
-            },
+            Section::Port => self.baud = read_port(string)?,
+            Section::Messages => self.messages = Messages::new(read_messages(string)?),
+            Section::Navigation => {
+                let navigation = read_navigation(string)?;
+                self.interval = navigation.interval;
+                self.systems = navigation.systems;
+            }
+            Section::Pulse => self.pulse = Pulse::read(string)?,
+            Section::Group => self.group = Group::read(string)?,
         }
-        true
+        Some(())
     }
 
     // Brings the factory settings of a section into force.

@@ -10,6 +10,7 @@ ghost use Rattle.settings.specs.declared.names.Section.TheVariants.{Port, Messag
 
 use crate::values::{Baud, Group, Interval, Navigation, Pulse, Systems};
 
+// Baud, Interval and Systems stay three: one type with its bounds as const parameters would name neither the setting nor its unit.
 impl Baud {
     pub fn new(code: u8) -> Option<Baud>
         ensures { option_map (λ b. b.code) result ≡ (if baud_in_range code then Some code else None) }
@@ -42,14 +43,6 @@ impl Systems {
     }
 }
 
-// The number in the four bytes of a string from i on.
-fn number_at(string: &[u8], i: usize) -> u32
-    requires { i + 4 ≤ length string.now }
-    ensures { result ≡ u4_at string.now i }
-{
-    u32::from_le_bytes([string[i], string[i + 1], string[i + 2], string[i + 3]])
-}
-
 impl Pulse {
     // The sixteen bytes of the setting.
     pub fn string(&self) -> [u8; 16]
@@ -78,27 +71,44 @@ impl Pulse {
         ]
     }
 
-    // The setting that sixteen bytes in range name.
+    // The setting that sixteen bytes in range name; a TryFrom would be no plainer, since each caller would drop its error.
     pub fn read(string: &[u8]) -> Option<Pulse>
         ensures { option_map pulse_values result ≡ (if is_kept PulseSection string.now then Some (pulse_at string.now) else None) }
     {
-        if string.len() != 16 {
+        let [
+            a,
+            b,
+            c,
+            d,
+            e,
+            f,
+            g,
+            h,
+            enable,
+            polarity,
+            reference,
+            source,
+            w,
+            x,
+            y,
+            z,
+        ] = *string
+        else {
+            return None;
+        };
+        let interval = u32::from_le_bytes([a, b, c, d]);
+        let width = u32::from_le_bytes([e, f, g, h]);
+        if width >= interval || enable > 3 || polarity > 1 || reference > 1 {
             return None;
         }
-        let interval = number_at(string, 0);
-        let width = number_at(string, 4);
-        if width >= interval || string[8] > 3 || string[9] > 1 || string[10] > 1 {
-            return None;
-        }
-        let delay = [string[12], string[13], string[14], string[15]];
         Some(Pulse {
             interval,
             width,
-            enable: string[8],
-            polarity: string[9],
-            reference: string[10],
-            source: string[11],
-            delay,
+            enable,
+            polarity,
+            reference,
+            source,
+            delay: [w, x, y, z],
         })
     }
 }
@@ -108,7 +118,8 @@ impl Group {
     pub fn read(string: &[u8]) -> Option<Group>
         ensures { option_map (λ g. g.bytes) result ≡ (if is_kept GroupSection string.now then Some string.now else None) }
     {
-        read_group(string)
+        let bytes: [u8; 56] = string.try_into().ok()?;
+        Some(Group { bytes })
     }
 }
 
@@ -135,23 +146,9 @@ pub(crate) fn read_navigation(string: &[u8]) -> Option<Navigation>
 }
 
 // The five rates that the messages' string names.
+#[tactic(auto, using(crate::proofs::Lists::five_is))]
 pub(crate) fn read_messages(string: &[u8]) -> Option<[u8; 5]>
     ensures { result ≡ (if is_kept Messages string.now then Some (five_of string.now) else None) }
 {
-    match string {
-        [gga, gll, rmc, zda, utc] => Some([*gga, *gll, *rmc, *zda, *utc]),
-        _ => None,
-    }
-}
-
-// The group settings that the group's string names.
-pub(crate) fn read_group(string: &[u8]) -> Option<Group>
-    ensures { option_map (λ g. g.bytes) result ≡ (if is_kept GroupSection string.now then Some string.now else None) }
-{
-    if string.len() != 56 {
-        return None;
-    }
-    let mut bytes = [0; 56];
-    bytes.copy_from_slice(string);
-    Some(Group { bytes })
+    string.try_into().ok()
 }
