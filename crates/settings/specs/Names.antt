@@ -20,8 +20,8 @@ section_at n =
     cond (n == 0) (Some Port) (cond (n == 1) (Some Messages) (cond (n == 3) (Some Navigation) (cond (n == 4) (Some Pulse) (cond (n == 5) (Some Group) None))))
 
 -- the error that holds a number
-abbrev pub unknown : ℕ → UnknownSection
-unknown n = record { 0 = n }
+abbrev pub unknown_section : ℕ → UnknownSection
+unknown_section n = record { 0 = n }
 
 -- the place of a message's entry in the table, and of its rate in the kept string
 abbrev pub place : Message → ℕ

@@ -1,7 +1,7 @@
 // The five sections and the five messages by name.
 ghost use Rattle.std.specs.Prelude.{◌≡◌};
 ghost use Rattle.std.specs.Option.{ok_or};
-ghost use Rattle.settings.specs.Names.{place, number, section_at, unknown};
+ghost use Rattle.settings.specs.Names.{place, number, section_at, unknown_section};
 
 // A section of the settings, kept as one string.
 #[derive(Clone, Copy, PartialEq, Eq, Debug)]
@@ -49,7 +49,7 @@ impl TryFrom<u8> for Section {
     type Error = UnknownSection;
 
     // The section of a number.
-    ghost try_from_gives = { λ number r. r ≡ ok_or (section_at number) (unknown number) };
+    ghost try_from_gives = { λ number r. r ≡ ok_or (section_at number) (unknown_section number) };
 
     fn try_from(number: u8) -> Result<Section, UnknownSection> {
         match number {
