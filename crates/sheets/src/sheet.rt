@@ -9,20 +9,12 @@ use crate::refusal::Refusal;
 use crate::text::Text;
 use settings::Settings;
 
-// The five rates.
-fn rates(settings: &Settings) -> [u8; 5]
-    ensures { result ≡ (values settings.now).rates }
-{
-    let [gga, gll, rmc, zda, utc] = settings.messages.entries;
-    [gga.rate, gll.rate, rmc.rate, zda.rate, utc.rate]
-}
-
 // The eight values, with a comma between two of them and LF at the end.
 fn values_line(settings: &Settings) -> Text
     ensures text { written result ≡ values_line (configuration (values settings.now)) }
     ensures len { result.len ≤ 48 }
 {
-    let [gga, gll, rmc, zda, utc] = rates(settings);
+    let [gga, gll, rmc, zda, utc] = settings.messages.rates();
     let mut text = Text::new();
     text.decimal(settings.baud.code as u16);
     text.field(gga as u16);
