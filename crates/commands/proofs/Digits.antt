@@ -1,10 +1,10 @@
 -- Fields of decimal digits.
-use Rattle.std.proofs.Common.{◌≡◌, ℕ, ◌+◌, ◌-◌, ◌*◌, ◌^◌, ◌<◌, ◌≤◌, Bool, true, false, cond, ◌&&◌, eqb, leb, List, [], ◌∷◌, length, get_or, take, drop, Some, None, sym, refl, ap, ◌∙◌, ap₂, pow-suc, add-one, arith}
+use Rattle.std.proofs.Common.{◌≡◌, ℕ, ◌+◌, ◌*◌, ◌^◌, ◌<◌, ◌≤◌, Bool, true, false, cond, ◌&&◌, eqb, leb, List, length, get_or, take, drop, Some, None, sym, refl, ap, ◌∙◌, ap₂, pow-suc, add-one, arith}
 use Rattle.std.specs.List.{prefix_len}
-use Rattle.std.proofs.lemmas.List.{take_all, take_rest}
+use Rattle.std.proofs.lemmas.List.{take_all}
 use Rattle.std.proofs.lemmas.List.Sums.{prefix_len-drop_yes, prefix_len-drop_no, prefix_len-drop_all, fold_more}
 use Rattle.std.proofs.lemmas.Bool.{le-leb, eq-eqb, ne_eqb, leb-true, eqb-false, and_parts, and_right, cond-false}
-use Rattle.commands.specs.Fields.{is_decimal, digit_value, digit_of, only_field, number_of, up_to_five_digits}
+use Rattle.commands.specs.Fields.{is_decimal, digit_value, digit_of, number_of, up_to_five_digits}
 
 -- what is known of a test from the option that it made
 pub failed : {A : Type 0} (t : Bool) (x : A) → None ≡ cond t (Some x) None → t ≡ false
@@ -17,11 +17,6 @@ passed false x y e = let z : ◌≡◌ {A = ℕ} 0 1 = cc in absurd (omega arith
 
 pub some_there : (n : ℕ) → false ≡ eqb n 0 → 1 ≤ n
 some_there n e = let h = eqb-false n 0 (sym e) in omega arith
-
--- the only field, where a comma stands first
-pub field_behind : (xs : List ℕ) → 1 ≤ length xs → get_or xs 0 0 ≡ 44 → only_field xs ≡ Some (take (length xs - 1) (drop 1 xs))
-field_behind [] n e = absurd (omega arith)
-field_behind (x ∷ xs) n e = let t = eq-eqb x 44 e in rw (t, take_rest (x ∷ xs) 1)
 
 -- the number so far, after one digit more, at a byte that is none, and at the end
 module _ (field : List ℕ) (i : ℕ) (so_far : i + prefix_len is_decimal (drop i field) ≡ prefix_len is_decimal field) where

@@ -1,3 +1,3 @@
 pub mod Digits
 pub mod DigitFields
-pub mod Told
+pub mod Heeded

@@ -13,6 +13,7 @@ use Rattle.commands.specs.declared.command.Query.{Query}
 use Rattle.commands.specs.declared.command.Query.TheVariants as query
 use Rattle.commands.specs.declared.command.Start.{Start}
 use Rattle.commands.specs.declared.command.Start.TheVariants.{Hot, Warm, Cold, Factory}
+use Rattle.commands.specs.declared.command.UnknownStart.{UnknownStart}
 use Rattle.commands.specs.declared.command.Sections.{Sections}
 use Rattle.commands.specs.Settings.{Configuration, Change, baud_to, rate_to, interval_to, systems_to, pulse_to, group_to}
 use Rattle.commands.specs.Fields.{address_of, behind_address, only_field, one_digit, up_to_five_digits, digit_fields}
@@ -57,6 +58,10 @@ sections_in mask = record { port = bit mask 0; messages = bit mask 1; navigation
 -- the start of each number
 abbrev pub start_at : ℕ → Option Start
 start_at n = cond (n == 0) (Some Hot) (cond (n == 1) (Some Warm) (cond (n == 2) (Some Cold) (cond (n == 3) (Some Factory) None)))
+
+-- the error of a number that no start has
+abbrev pub unknown_start : ℕ → UnknownStart
+unknown_start n = record { 0 = n }
 
 abbrev pub start_request : Option Start → Request
 start_request None = wrong

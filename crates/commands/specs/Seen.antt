@@ -1,12 +1,12 @@
 -- What the code's commands stand for.
-use Rattle.std.specs.Prelude.{[], ◌∷◌}
+use Rattle.std.specs.Prelude.{[], ◌∷◌, Some, None, Option, Ok, Err, Result}
 use Rattle.settings.specs.declared.values.Setting.{Setting}
 use Rattle.settings.specs.declared.values.Setting.TheVariants as setting
 use Rattle.settings.specs.Values.{pulse_values}
 use Rattle.commands.specs.declared.command.Command.{Command as CodeCommand}
 use Rattle.commands.specs.declared.command.Command.TheVariants.{Set, SetRates, Save, Clear, Load, Start, Query}
-use Rattle.commands.specs.declared.command.Request.{Request as CodeRequest}
-use Rattle.commands.specs.declared.command.Request.TheVariants.{PassedOver, Wrong, Command as AsCommand}
+use Rattle.commands.specs.declared.command.Unheeded.{Unheeded}
+use Rattle.commands.specs.declared.command.Unheeded.TheVariants.{PassedOver, Wrong}
 use Rattle.commands.specs.Settings.{Change, baud_to, rate_to, interval_to, systems_to, pulse_to, group_to}
 use Rattle.commands.specs.Commands.{Command, sets, saves, clears, loads, starts, asks, Request, passed_over, wrong, command, four_rates}
 
@@ -28,7 +28,13 @@ command_of (Load x) = loads x
 command_of (Start s) = starts s
 command_of (Query q) = asks q
 
-abbrev pub seen_request : CodeRequest → Request
-seen_request PassedOver = passed_over
-seen_request Wrong = wrong
-seen_request (AsCommand c) = command (command_of c)
+-- what a frame or sentence that is the card's own asks
+abbrev pub asked : Option CodeCommand → Request
+asked None = wrong
+asked (Some c) = command (command_of c)
+
+-- what any frame or sentence is to the card
+abbrev pub seen_request : Result CodeCommand Unheeded → Request
+seen_request (Err PassedOver) = passed_over
+seen_request (Err Wrong) = wrong
+seen_request (Ok c) = command (command_of c)

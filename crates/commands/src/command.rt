@@ -1,7 +1,8 @@
 // What a host can ask of the card.
 ghost use Rattle.std.specs.Prelude.{◌≡◌};
-ghost use Rattle.commands.specs.Commands.{names_section, all_sections, sections_in, start_at, set_interval, start_by};
-ghost use Rattle.commands.specs.Seen.{seen_request};
+ghost use Rattle.std.specs.Option.{ok_or};
+ghost use Rattle.commands.specs.Commands.{names_section, all_sections, sections_in, start_at, unknown_start, set_interval, start_by};
+ghost use Rattle.commands.specs.Seen.{asked};
 
 use settings::{Interval, Section, Setting};
 
@@ -52,15 +53,14 @@ pub enum Command {
     Query(Query),
 }
 
-// What a frame or sentence is to the card.
-#[derive(Clone, Copy)]
-pub enum Request {
+// Why a frame or sentence is no command: it is none of the card's, or it has something wrong in it.
+#[derive(Clone, Copy, PartialEq, Eq, Debug)]
+pub enum Unheeded {
     PassedOver,
     Wrong,
-    Command(Command),
 }
 
-// What became of a request.
+// What became of a frame or sentence.
 #[derive(Clone, Copy, PartialEq, Eq, Debug)]
 pub enum Outcome {
     PassedOver,
@@ -69,17 +69,38 @@ pub enum Outcome {
     Told(Query),
 }
 
-impl Start {
+// A number that no start has.
+#[derive(Clone, Copy, PartialEq, Eq, Debug)]
+pub struct UnknownStart(pub u8);
+
+impl TryFrom<u8> for Start {
+    type Error = UnknownStart;
+
     // The start of a number.
-    pub fn of_number(number: u8) -> Option<Start>
-        ensures { result ≡ start_at number }
-    {
+    ghost try_from_gives = { λ number r. r ≡ ok_or (start_at number) (unknown_start number) };
+
+    fn try_from(number: u8) -> Result<Start, UnknownStart> {
         match number {
-            0 => Some(Start::Hot),
-            1 => Some(Start::Warm),
-            2 => Some(Start::Cold),
-            3 => Some(Start::Factory),
-            _ => None,
+            0 => Ok(Start::Hot),
+            1 => Ok(Start::Warm),
+            2 => Ok(Start::Cold),
+            3 => Ok(Start::Factory),
+            _ => Err(UnknownStart(number)),
+        }
+    }
+}
+
+impl From<u16> for Sections {
+    // The sections that the bits of a mask name.
+    ghost from_gives = { λ mask sections. sections ≡ sections_in mask };
+
+    fn from(mask: u16) -> Sections {
+        Sections {
+            port: mask % 2 == 1,
+            messages: mask / 2 % 2 == 1,
+            navigation: mask / 8 % 2 == 1,
+            pulse: mask / 16 % 2 == 1,
+            group: mask / 32 % 2 == 1,
         }
     }
 }
@@ -98,19 +119,6 @@ impl Sections {
         }
     }
 
-    // The sections that the bits of a mask name.
-    pub fn of_mask(mask: u16) -> Sections
-        ensures { result ≡ sections_in mask }
-    {
-        Sections {
-            port: mask % 2 == 1,
-            messages: mask / 2 % 2 == 1,
-            navigation: mask / 8 % 2 == 1,
-            pulse: mask / 16 % 2 == 1,
-            group: mask / 32 % 2 == 1,
-        }
-    }
-
     // Whether a section is among them.
     pub fn has(self, section: Section) -> bool
         ensures { result ≡ names_section self section }
@@ -125,24 +133,19 @@ impl Sections {
     }
 }
 
-impl Request {
+impl Command {
     // The start of a number.
-    pub(crate) fn start(number: u8) -> Request
-        ensures { seen_request result ≡ start_by number }
+    pub(crate) fn start(number: u8) -> Option<Command>
+        ensures { asked result ≡ start_by number }
     {
-        match Start::of_number(number) {
-            Some(start) => Request::Command(Command::Start(start)),
-            None => Request::Wrong,
-        }
+        Start::try_from(number).ok().map(Command::Start)
     }
 
     // An interval between fixes.
-    pub(crate) fn interval(milliseconds: u16) -> Request
-        ensures { seen_request result ≡ set_interval milliseconds }
+    pub(crate) fn interval(milliseconds: u16) -> Option<Command>
+        ensures { asked result ≡ set_interval milliseconds }
     {
-        match Interval::new(milliseconds) {
-            Some(interval) => Request::Command(Command::Set(Setting::Interval(interval))),
-            None => Request::Wrong,
-        }
+        let interval = Interval::new(milliseconds)?;
+        Some(Command::Set(Setting::Interval(interval)))
     }
 }

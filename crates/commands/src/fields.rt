@@ -1,20 +1,18 @@
 // Reading the fields of a sentence's body.
-ghost use Rattle.std.specs.Prelude.{◌≡◌, ◌≤◌, not, length, take, slice_index};
-ghost use Rattle.std.specs.Option.{option_map, option_flatten, unwrap_or};
+ghost use Rattle.std.specs.Prelude.{◌≡◌, ◌≤◌, not, ◌∷◌, length};
+ghost use Rattle.std.specs.Option.{option_map, option_flatten};
 ghost use Rattle.std.specs.List.{prefix_len};
 ghost use Rattle.commands.specs.Fields.{is_comma, digit_of, only_field, one_digit, up_to_five_digits, digit_fields};
 ghost use Rattle.commands.specs.Commands.{rates_request};
+
+use arrayvec::ArrayVec;
 
 // How many bytes stand before the first comma.
 pub(crate) fn address_size(body: &[u8]) -> usize
     ensures size { result ≡ prefix_len (λ b. not (is_comma b)) body.now }
     ensures within { result ≤ length body.now }
 {
-    let mut at = 0;
-    while at < body.len() && body[at] != b',' {
-        at += 1;
-    }
-    at
+    body.iter().position(|b| *b == b',').unwrap_or(body.len())
 }
 
 // The value of a decimal digit.
@@ -55,34 +53,36 @@ fn number(field: &[u8]) -> Option<u32>
 pub(crate) fn up_to_five_digits(rest: &[u8]) -> Option<u32>
     ensures { result ≡ option_flatten (option_map up_to_five_digits (only_field rest.now)) }
 {
-    if rest.is_empty() || rest[0] != b',' {
-        return None;
+    match rest {
+        [b',', field @ ..] => number(field),
+        _ => None,
     }
-    number(&rest[1..])
 }
 
-// The digit at a place, where one stands there.
-fn digit_at(rest: &[u8], i: usize) -> Option<u8>
-    ensures { result ≡ digit_of (slice_index rest.now i) }
+// The digit at the start of a field, if one stands there, and what stands behind it.
+fn split_digit(field: &[u8]) -> (Option<u8>, &[u8])
+    ensures fields { digit_fields (0x2c ∷ field.now) ≡ option_map (λ more. result.0 ∷ more) (digit_fields result.1.now) }
+    ensures behind { length result.1.now ≤ length field.now }
 {
-    if i < rest.len() { digit(rest[i]) } else { None }
+    match field {
+        [] => (None, field),
+        [b, behind @ ..] => match digit(*b) {
+            Some(digit) => (Some(digit), behind),
+            None => (None, field),
+        },
+    }
 }
 
-// Reads fields of one digit or none, and gives how many there are; none where one is neither, or where there are more than 14.
-pub(crate) fn digit_fields(rest: &[u8], digits: &mut [Option<u8>; 14]) -> Option<usize>
-    ensures within { unwrap_or result 0 ≤ 14 }
-    ensures rates { rates_request (option_map (λ n. take n digits.new) result) ≡ rates_request (digit_fields rest.now) }
+// Fields of one digit or none; none where one is neither, or where there are more than 14.
+pub(crate) fn digit_fields(rest: &[u8]) -> Option<ArrayVec<Option<u8>, 14>>
+    ensures { rates_request (option_map (λ v. v.items) result) ≡ rates_request (digit_fields rest.now) }
 {
-    let mut count = 0usize;
-    let mut at = 0;
-    while at < rest.len() {
-        if rest[at] != b',' || count == 14 {
-            return None;
-        }
-        let digit = digit_at(rest, at + 1);
-        digits[count] = digit;
-        count += 1;
-        at += if digit.is_some() { 2 } else { 1 };
+    let mut digits = ArrayVec::new();
+    let mut rest = rest;
+    while let [b',', field @ ..] = rest {
+        let (digit, behind) = split_digit(field);
+        digits.try_push(digit).ok()?;
+        rest = behind;
     }
-    Some(count)
+    rest.is_empty().then_some(digits)
 }

@@ -1,9 +1,9 @@
 // What a frame of class 06 asks, by its id.
 ghost use Rattle.std.specs.Prelude.{◌≡◌};
 ghost use Rattle.commands.specs.Commands.{message_at, message_rate, reset, time_pulse, fix_interval, configure, group_setting, frame_request};
-ghost use Rattle.commands.specs.Seen.{seen_request};
+ghost use Rattle.commands.specs.Seen.{asked};
 
-use crate::command::{Command, Query, Request, Sections};
+use crate::command::{Command, Query, Sections};
 use settings::{Group, Message, Pulse, Setting};
 
 // The message of a class and an id.
@@ -21,90 +21,81 @@ fn message_of(class: u8, id: u8) -> Option<Message>
 }
 
 // The rate of one message.
-fn message_rate(payload: &[u8]) -> Request
-    ensures { seen_request result ≡ message_rate payload.now }
+fn message_rate(payload: &[u8]) -> Option<Command>
+    ensures { asked result ≡ message_rate payload.now }
 {
     let [class, id, low, high] = payload else {
-        return Request::Wrong;
+        return None;
     };
-    let Some(message) = message_of(*class, *id) else {
-        return Request::Wrong;
-    };
+    let message = message_of(*class, *id)?;
     if *high != 0 {
-        return Request::Wrong;
+        return None;
     }
-    Request::Command(Command::Set(Setting::Rate(message, *low)))
+    Some(Command::Set(Setting::Rate(message, *low)))
 }
 
 // A start.
-fn restart(payload: &[u8]) -> Request
-    ensures { seen_request result ≡ reset payload.now }
+fn restart(payload: &[u8]) -> Option<Command>
+    ensures { asked result ≡ reset payload.now }
 {
-    let [_, _, mode, number] = payload else {
-        return Request::Wrong;
-    };
-    if *mode > 2 && *mode != 4 {
-        return Request::Wrong;
+    match payload {
+        [_, _, 0 | 1 | 2 | 4, number] => Command::start(*number),
+        _ => None,
     }
-    Request::start(*number)
 }
 
 // The pulse, or a query.
-fn time_pulse(payload: &[u8]) -> Request
-    ensures { seen_request result ≡ time_pulse payload.now }
+fn time_pulse(payload: &[u8]) -> Option<Command>
+    ensures { asked result ≡ time_pulse payload.now }
 {
     if payload.is_empty() {
-        return Request::Command(Command::Query(Query::Pulse));
+        return Some(Command::Query(Query::Pulse));
     }
-    match Pulse::read(payload) {
-        Some(pulse) => Request::Command(Command::Set(Setting::Pulse(pulse))),
-        None => Request::Wrong,
-    }
+    let pulse = Pulse::read(payload)?;
+    Some(Command::Set(Setting::Pulse(pulse)))
 }
 
 // The interval between fixes, or a query.
-fn fix_interval(payload: &[u8]) -> Request
-    ensures { seen_request result ≡ fix_interval payload.now }
+fn fix_interval(payload: &[u8]) -> Option<Command>
+    ensures { asked result ≡ fix_interval payload.now }
 {
     match payload {
-        [] => Request::Command(Command::Query(Query::Interval)),
-        [low, high, _, _] => Request::interval(u16::from_le_bytes([*low, *high])),
-        _ => Request::Wrong,
+        [] => Some(Command::Query(Query::Interval)),
+        [low, high, _, _] => Command::interval(u16::from_le_bytes([*low, *high])),
+        _ => None,
     }
 }
 
 // Sections to clear, save or load.
-fn configure(payload: &[u8]) -> Request
-    ensures { seen_request result ≡ configure payload.now }
+fn configure(payload: &[u8]) -> Option<Command>
+    ensures { asked result ≡ configure payload.now }
 {
     let [low, high, mode, _] = payload else {
-        return Request::Wrong;
+        return None;
     };
-    let sections = Sections::of_mask(u16::from_le_bytes([*low, *high]));
+    let sections = Sections::from(u16::from_le_bytes([*low, *high]));
     match *mode {
-        0 => Request::Command(Command::Clear(sections)),
-        1 => Request::Command(Command::Save(sections)),
-        2 => Request::Command(Command::Load(sections)),
-        _ => Request::Wrong,
+        0 => Some(Command::Clear(sections)),
+        1 => Some(Command::Save(sections)),
+        2 => Some(Command::Load(sections)),
+        _ => None,
     }
 }
 
 // The group setting, or a query.
-fn group_setting(payload: &[u8]) -> Request
-    ensures { seen_request result ≡ group_setting payload.now }
+fn group_setting(payload: &[u8]) -> Option<Command>
+    ensures { asked result ≡ group_setting payload.now }
 {
     if payload.is_empty() {
-        return Request::Command(Command::Query(Query::Group));
+        return Some(Command::Query(Query::Group));
     }
-    match Group::read(payload) {
-        Some(group) => Request::Command(Command::Set(Setting::Group(group))),
-        None => Request::Wrong,
-    }
+    let group = Group::read(payload)?;
+    Some(Command::Set(Setting::Group(group)))
 }
 
 // A frame of class 06.
-pub(crate) fn frame_request(id: u8, payload: &[u8]) -> Request
-    ensures { seen_request result ≡ frame_request id payload.now }
+pub(crate) fn frame_request(id: u8, payload: &[u8]) -> Option<Command>
+    ensures { asked result ≡ frame_request id payload.now }
 {
     match id {
         0x01 => message_rate(payload),
@@ -113,6 +104,6 @@ pub(crate) fn frame_request(id: u8, payload: &[u8]) -> Request
         0x04 => fix_interval(payload),
         0x05 => configure(payload),
         0x08 => group_setting(payload),
-        _ => Request::Wrong,
+        _ => None,
     }
 }

@@ -8,5 +8,5 @@ mod items;
 mod query;
 mod sentences;
 
-pub use command::{Command, Outcome, Query, Rates, Request, Sections, Start};
+pub use command::{Command, Outcome, Query, Rates, Sections, Start, Unheeded, UnknownStart};
 pub use items::decode;

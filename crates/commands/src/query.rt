@@ -21,10 +21,13 @@ impl Query {
         }
     }
 
-    // Writes the payload over the start of a buffer, and gives its length.
-    fn write_payload(self, settings: &Settings, out: &mut [u8; 56]) -> usize
+    // The payload that tells the setting, over the start of the caller's buffer, and its length; sent back, it sets the same value.
+    pub fn payload(self, settings: &Settings, out: &mut [u8; 56]) -> usize
         ensures size { result ≡ length (told_payload self (configuration (values settings.now))) }
         ensures out { out.new ≡ told_payload self (configuration (values settings.now)) ++ drop (length (told_payload self (configuration (values settings.now)))) out.old }
+        ensures lawful { lawful_length (length (told_payload self (configuration (values settings.now)))) ≡ true }
+        ensures few { length (told_payload self (configuration (values settings.now))) ≤ 56 }
+        ensures back { request_of (frame_item 0x06 (query_id self) (told_payload self (configuration (values settings.now)))) ≡ command (sets (told_change self (configuration (values settings.now)) ∷ [])) }
     {
         match self {
             Query::Pulse => settings.kept_string(Section::Pulse, out),
@@ -35,16 +38,5 @@ impl Query {
             }
             Query::Group => settings.kept_string(Section::Group, out),
         }
-    }
-
-    // The payload that tells the setting, over the start of a buffer, and its length; sent back, it sets the same value.
-    pub fn payload(self, settings: &Settings, out: &mut [u8; 56]) -> usize
-        ensures size { result ≡ length (told_payload self (configuration (values settings.now))) }
-        ensures out { out.new ≡ told_payload self (configuration (values settings.now)) ++ drop (length (told_payload self (configuration (values settings.now)))) out.old }
-        ensures lawful { lawful_length (length (told_payload self (configuration (values settings.now)))) ≡ true }
-        ensures few { length (told_payload self (configuration (values settings.now))) ≤ 56 }
-        ensures back { request_of (frame_item 0x06 (query_id self) (told_payload self (configuration (values settings.now)))) ≡ command (sets (told_change self (configuration (values settings.now)) ∷ [])) }
-    {
-        self.write_payload(settings, out)
     }
 }

@@ -8,8 +8,7 @@ use Rattle.settings.specs.declared.values.Settings.{Settings}
 use Rattle.settings.specs.Names.{place}
 use Rattle.settings.specs.Values.{values, counts, factory}
 use Rattle.commands.specs.declared.command.Command.{Command}
-use Rattle.commands.specs.declared.command.Request.{Request}
-use Rattle.commands.specs.declared.command.Request.TheVariants.{Command as AsCommand}
+use Rattle.commands.specs.declared.command.Unheeded.{Unheeded}
 use Rattle.commands.specs.declared.command.Outcome.{Outcome}
 use Rattle.commands.specs.Settings.{configuration}
 use Rattle.commands.specs.Commands.{all_sections, command}
@@ -39,7 +38,7 @@ factory_step v w t is ev ec =
     λ i. record { settings = settings i; count = λ m. count m i; string = λ s. string s i; left = (is i).left; price = (is i).price }
 
 -- a command that was acted upon
-pub obeyed : {b : State} {h : List Event} {v : State} → Follows b h v → (q : Request) (x : Command) (r : Result Outcome Refusal) (w : State) → q ≡ AsCommand x
+pub obeyed : {b : State} {h : List Event} {v : State} → Follows b h v → (q : Result Command Unheeded) (x : Command) (r : Result Outcome Refusal) (w : State) → q ≡ Ok x
     → r ≡ Ok (outcome v [] (command (command_of x))) → w ≡ stepped_all v (events_of v (command (command_of x)))
     → (r ≡ Ok (outcome b h (seen_request q))) × Follows b (heard b h (seen_request q)) w
 obeyed {b} {h} f q x r w is er ew =

@@ -12,7 +12,7 @@ ghost use Rattle.inforce.specs.Sections.{writing_event};
 
 use crate::parts::{InForce, Writing};
 use crate::sections::{how_many, load_one, write_one};
-use commands::{Command, Outcome, Rates, Request, Sections, Start};
+use commands::{Command, Outcome, Rates, Sections, Start, Unheeded};
 use memory::{Refusal, SettingsMemory};
 use settings::{Message, Section, Setting, Settings};
 
@@ -194,15 +194,15 @@ impl<M: SettingsMemory> InForce<M> {
         Ok(Outcome::Done)
     }
 
-    // A request: one that is passed over or turned down changes nothing.
-    pub fn obey(&mut self, request: Request) -> Result<Outcome, Refusal>
+    // What a frame or sentence asks: one that is passed over or turned down changes nothing.
+    pub fn obey(&mut self, request: Result<Command, Unheeded>) -> Result<Outcome, Refusal>
         ensures done { is_ok result ≡ true }
         ensures obeyed { (b : State) (h : List Event) → Follows b h (state_of M.meaning self.old) → (result ≡ Ok (outcome b h (seen_request request))) × Follows b (heard b h (seen_request request)) (state_of M.meaning self.new) }
     {
         match request {
-            Request::PassedOver => Ok(Outcome::PassedOver),
-            Request::Wrong => Ok(Outcome::TurnedDown),
-            Request::Command(command) => self.act(command),
+            Ok(command) => self.act(command),
+            Err(Unheeded::PassedOver) => Ok(Outcome::PassedOver),
+            Err(Unheeded::Wrong) => Ok(Outcome::TurnedDown),
         }
     }
 }
