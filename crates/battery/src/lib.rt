@@ -7,7 +7,7 @@ ghost use Rattle.memory.specs.Memory.{known, keepable, refuse, with_string, keep
 ghost use Rattle.battery.specs.Limits.{battery_limits};
 ghost use Rattle.battery.specs.Places.{start, string_in, filled, battery_meaning, keep_image, erase_image};
 
-use memory::{LONGEST, Refusal, SettingsMemory};
+use memory::{LONGEST, Refusal, SettingsMemory, ShortString};
 
 // The bytes of a place.
 const PLACE: usize = 64;
@@ -39,7 +39,7 @@ impl Battery {
 
 // Where the place of a section starts, if there is such a section.
 fn place(section: u8) -> Result<usize, Refusal>
-    ensures { result ≡ refuse (not (known section)) 7 (Ok (start section)) }
+    ensures { result ≡ refuse (not (known section)) Refusal.UnknownSection (Ok (start section)) }
 {
     match section {
         0 | 1 => Ok(PLACE * section as usize),
@@ -49,12 +49,11 @@ fn place(section: u8) -> Result<usize, Refusal>
 }
 
 // Writes a string into the place that starts at `at`.
-fn fill(image: &mut [u8], at: usize, bytes: &[u8])
-    requires room { at + 64 ≤ length image.old }
-    requires short { length bytes.now ≤ 56 }
-    ensures image { image.new ≡ filled at bytes.now image.old }
-    ensures fits { length bytes.now ≤ 56 }
+fn fill(image: &mut [u8], at: usize, string: ShortString)
+    requires { at + 64 ≤ length image.old }
+    ensures { image.new ≡ filled at string.entry.bytes.now image.old }
 {
+    let bytes = string.bytes;
     let n = bytes.len();
     image[at] = STRING;
     image[at + 1] = n as u8;
@@ -70,18 +69,16 @@ fn clear(image: &mut [u8], at: usize)
 }
 
 // Copies the string of a place, if one stands there, to the start of `out`, and gives its length.
-fn copy(place: &[u8], out: &mut [u8]) -> Option<usize>
-    requires whole { length place.now ≡ 64 }
-    requires room { 56 ≤ length out.old }
+fn copy(place: &[u8], out: &mut [u8; LONGEST]) -> Option<usize>
+    requires { length place.now ≡ 64 }
     ensures size { result ≡ option_map length (string_in place.now) }
     ensures copied { out.new ≡ with_string (string_in place.now) out.old }
-    ensures fits { 56 ≤ length out.old }
 {
     let n = place[1] as usize;
     if place[0] != STRING || n > LONGEST {
         return None;
     }
-    out[0..n].copy_from_slice(&place[4..4 + n]);
+    out[..n].copy_from_slice(&place[4..4 + n]);
     Some(n)
 }
 
@@ -99,10 +96,8 @@ impl SettingsMemory for Battery {
         ensures accepts { is_ok result ≡ keepable section bytes.now }
     {
         let at = place(section)?;
-        if bytes.len() > LONGEST {
-            return Err(Refusal::StringTooLong);
-        }
-        fill(&mut self.image, at, bytes);
+        let string = ShortString::try_from(bytes)?;
+        fill(&mut self.image, at, string);
         Ok(())
     }
 
@@ -118,13 +113,9 @@ impl SettingsMemory for Battery {
     }
 
     fn read(&self, section: u8, out: &mut [u8]) -> Result<Option<usize>, Refusal> {
-        let Ok(start) = place(section) else {
-            return Err(Refusal::UnknownSection);
-        };
-        if out.len() < LONGEST {
-            return Err(Refusal::BufferTooShort);
-        }
-        Ok(copy(&self.image[start..start + PLACE], out))
+        let start = place(section)?;
+        let room = out.first_chunk_mut().ok_or(Refusal::BufferTooShort)?;
+        Ok(copy(&self.image[start..start + PLACE], room))
     }
 
     fn left(&self) -> usize {

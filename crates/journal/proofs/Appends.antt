@@ -1,33 +1,18 @@
 -- What keep and erase answer and leave, from what an append answers and leaves.
-use Rattle.std.proofs.Common.{◌≡◌, ℕ, ◌+◌, ◌<◌, ◌≤◌, Bool, true, false, cond, ltb, List, [], ◌++◌, length, take, drop, is_ok, Ok, Err, Result, sym, ap, ◌∙◌, subst, ap₂, ⊎_elim, append_assoc, arith, length-append}
-use Rattle.std.proofs.lemmas.List.{drop-drop, drop_at, take_at, length-take-le}
+use Rattle.std.proofs.Common.{◌≡◌, ℕ, ◌<◌, ◌≤◌, Bool, true, false, cond, ltb, List, [], length, is_ok, Some, None, Option, Ok, Err, Result, sym, ap, ◌∙◌, subst, ⊎_elim, arith}
+use Rattle.std.specs.Option.{IfSome}
 use Rattle.std.proofs.lemmas.Bool.{cases_Bool, ltb-false, ltb-true, le-ltb, le-leb, lt-ltb}
 use Rattle.memory.specs.declared.Refusal.{Refusal}
 use Rattle.memory.specs.declared.Refusal.TheVariants.{NoWritesLeft}
-use Rattle.memory.specs.Bytes.{over_from}
 use Rattle.memory.specs.Memory.{known, refuse}
 use Rattle.memory.proofs.Done.{keep_done, erase_done}
 use Rattle.journal.specs.Slots.{slots, used, writes_left, journal_meaning}
-use Rattle.journal.specs.Writes.{entry, appended, Keeps, Erases}
+use Rattle.journal.specs.Writes.{entry, written, appended, Keeps, Erases, Spends}
 use Rattle.journal.proofs.Writes.{kept, erased}
-
--- bytes written behind bytes just written are written with them
-pub over_over : (a : ℕ) (h b xs : List ℕ) → a ≤ length xs → over_from (a + length h) b (over_from a h xs) ≡ over_from a (h ++ b) xs
-over_over a h b xs l =
-    let front : List ℕ = take a xs in
-    let long : length front ≡ a = length-take-le a xs l in
-    let rest : List ℕ = drop (length h) (drop a xs) in
-    let joined : over_from a h xs ≡ (front ++ h) ++ rest = sym (append_assoc front h rest) in
-    let size : length (front ++ h) ≡ a + length h = length-append front h ∙ ap (λ n. n + length h) long in
-    let start : take (a + length h) (over_from a h xs) ≡ front ++ h = ap (take (a + length h)) joined ∙ take_at (front ++ h) rest (a + length h) size in
-    let end : drop (length b) (drop (a + length h) (over_from a h xs)) ≡ drop (length (h ++ b)) (drop a xs) =
-    ap (drop (length b)) (ap (drop (a + length h)) joined ∙ drop_at (front ++ h) rest (a + length h) size)
-    ∙ drop-drop (length b) (length h) (drop a xs) ∙ ap (λ n. drop n (drop a xs)) (sym (length-append h b)) in
-    ap₂ (λ x y. x ++ (b ++ y)) start end ∙ append_assoc front h (b ++ drop (length (h ++ b)) (drop a xs)) ∙ ap (λ z. front ++ z) (sym (append_assoc h b (drop (length (h ++ b)) (drop a xs))))
 
 -- an append is either refused and leaves everything, or done
 module _ (xs ys w : List ℕ) (r : Result (Unit {0}) Refusal)
-    (answer : r ≡ refuse (ltb (writes_left xs) 1) 9 (Ok tt)) (after : ys ≡ cond (is_ok r) (appended xs w) xs) where
+    (answer : r ≡ refuse (ltb (writes_left xs) 1) NoWritesLeft (Ok tt)) (after : ys ≡ cond (is_ok r) (appended xs w) xs) where
   by_room : (P : Result (Unit {0}) Refusal → List ℕ → Type 0) → (ltb (writes_left xs) 1 ≡ true → P (Err NoWritesLeft) xs) → (used xs (slots xs) < slots xs → P (Ok tt) (appended xs w)) → P r ys
   by_room P full room =
       let Q : Bool → Type 0 = λ t. P (cond t (Err NoWritesLeft) (Ok tt)) (cond (is_ok (cond t (Err NoWritesLeft) (Ok tt))) (appended xs w) xs) in
@@ -37,7 +22,7 @@ module _ (xs ys w : List ℕ) (r : Result (Unit {0}) Refusal)
       subst (λ z. P r z) (sym after) at_r
 
 module _ (xs ys : List ℕ) (s : ℕ) (r : Result (Unit {0}) Refusal) (k : known s ≡ true)
-    (answer : r ≡ refuse (ltb (writes_left xs) 1) 9 (Ok tt)) where
+    (answer : r ≡ refuse (ltb (writes_left xs) 1) NoWritesLeft (Ok tt)) where
   none_left : ltb (writes_left xs) 1 ≡ true → ltb 0 (writes_left xs) ≡ false
   none_left t = let l = ltb-true (writes_left xs) 1 t in le-ltb 0 (writes_left xs) (omega arith)
 
@@ -64,3 +49,7 @@ module _ (xs ys : List ℕ) (s : ℕ) (r : Result (Unit {0}) Refusal) (k : known
       let e = some_left room in
       let m = erased xs s k room in
       record { answer = sym d.0; after = m ∙ sym d.1; image = sym (ap (λ z. cond (is_ok z) (appended xs (entry 0 s [])) xs) d.0); accepts = rw (k, e); writes = ap (λ x. x.left) m })
+
+  pub spends : (o : Option (List ℕ)) → IfSome o (λ b. length b ≤ 56) → ys ≡ cond (is_ok r) (appended xs (written s o)) xs → Spends xs ys s o r
+  spends None few after = erases after
+  spends (Some b) few after = keeps b few after

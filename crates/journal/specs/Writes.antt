@@ -1,5 +1,5 @@
 -- What keep and erase write, and all that they promise of the caller's bytes.
-use Rattle.std.specs.Prelude.{◌≡◌, ℕ, ◌-◌, ◌*◌, cond, ◌&&◌, List, [], ◌∷◌, ◌++◌, length, is_ok, Result, nat_lt}
+use Rattle.std.specs.Prelude.{◌≡◌, ℕ, ◌-◌, ◌*◌, cond, ◌&&◌, List, [], ◌∷◌, ◌++◌, length, is_ok, Some, None, Option, Result, nat_lt}
 use Rattle.memory.specs.declared.Refusal.{Refusal}
 use Rattle.memory.specs.Bytes.{over_from}
 use Rattle.memory.specs.Memory.{known, keepable, keep_answer, keep_after, erase_answer, erase_after}
@@ -12,6 +12,11 @@ header kind s n = kind ∷ (s ∷ (n ∷ (0 ∷ [])))
 -- the bytes that a write puts into its slot
 abbrev pub entry : ℕ → ℕ → List ℕ → List ℕ
 entry kind s b = header kind s (length b) ++ b
+
+-- the bytes that keep one string, or that erase it where there is none
+abbrev pub written : ℕ → Option (List ℕ) → List ℕ
+written s None = entry 0 s []
+written s (Some b) = entry 1 s b
 
 -- the image with bytes written into the slot behind the last used one
 abbrev pub appended : List ℕ → List ℕ → List ℕ
@@ -40,3 +45,8 @@ pub record Erases (xs ys : List ℕ) (s : ℕ) (r : Result (Unit {0}) Refusal) :
   pub image : ys ≡ erase_image xs s
   pub accepts : is_ok r ≡ (known s && nat_lt 0 (writes_left xs))
   pub writes : writes_left ys ≡ writes_left xs - cond (is_ok r) 1 0
+
+-- the answer r to keeping one string, or to erasing it where there is none
+abbrev pub Spends : List ℕ → List ℕ → ℕ → Option (List ℕ) → Result (Unit {0}) Refusal → Type 0
+Spends xs ys s None r = Erases xs ys s r
+Spends xs ys s (Some b) r = Keeps xs ys s b r

@@ -8,11 +8,11 @@ ghost use Rattle.journal.specs.Latest.{FreeBehind, Found, Said};
 ghost use Rattle.journal.specs.Slots.{slots, writes_left, journal_meaning};
 ghost use Rattle.journal.specs.Writes.{Keeps, Erases};
 
-use memory::{LONGEST, Refusal, SettingsMemory};
+use memory::{Refusal, SettingsMemory, ShortString};
 
 mod slots;
 
-use slots::{append_erase, append_keep, latest_slot, read_section, writes_left};
+use slots::{latest_slot, read_section, spend, writes_left};
 
 // A settings memory over the bytes that it is lent; any bytes are lawful.
 #[derive(Drop)]
@@ -50,13 +50,9 @@ impl<'a> SettingsMemory for Journal<'a> {
         ensures keeps { Keeps self.old.image.now self.new.image.now section bytes.now result }
         ensures held { self.new.image.ghost_name ≡ self.old.image.ghost_name }
     {
-        if !memory::is_known(section) {
-            return Err(Refusal::UnknownSection);
-        }
-        if bytes.len() > LONGEST {
-            return Err(Refusal::StringTooLong);
-        }
-        append_keep(self.image, section, bytes)
+        memory::check_section(section)?;
+        let string = ShortString::try_from(bytes)?;
+        spend(self.image, section, Some(string))
     }
 
     fn erase(&mut self, section: u8) -> Result<(), Refusal>
@@ -65,10 +61,8 @@ impl<'a> SettingsMemory for Journal<'a> {
         ensures erases { Erases self.old.image.now self.new.image.now section result }
         ensures held { self.new.image.ghost_name ≡ self.old.image.ghost_name }
     {
-        if !memory::is_known(section) {
-            return Err(Refusal::UnknownSection);
-        }
-        append_erase(self.image, section)
+        memory::check_section(section)?;
+        spend(self.image, section, None)
     }
 
     fn read(&self, section: u8, out: &mut [u8]) -> Result<Option<usize>, Refusal> {

@@ -1,7 +1,7 @@
 -- What the calls answer and leave where no cause of a refusal holds, and what an answer of read says.
-use Rattle.std.proofs.Common.{◌≡◌, ℕ, ◌≤◌, true, false, ltb, List, length, take, drop, Some, None, Ok, Err, Option, sym, refl, ap, ◌∙◌, ap₂, ⊎_elim, arith}
+use Rattle.std.proofs.Common.{◌≡◌, ℕ, ◌+◌, ◌-◌, ◌≤◌, ◌++◌, append_assoc, true, false, ltb, List, length, take, drop, Some, None, Ok, Err, Option, sym, refl, ap, ◌∙◌, ap₂, ⊎_elim, arith}
 use Rattle.std.specs.Option.{option_map}
-use Rattle.std.proofs.lemmas.List.{take_at}
+use Rattle.std.proofs.lemmas.List.{take_at, take-append-drop, drop-take, drop-drop}
 use Rattle.std.proofs.lemmas.Bool.{le-ltb, cases_Bool}
 use Rattle.memory.specs.declared.Refusal.TheVariants.{UnknownSection, BufferTooShort}
 use Rattle.memory.specs.Memory.{Meaning, Fitting, known, changed, with_string, keep_answer, keep_after, erase_answer, erase_after, read_answer, read_out, string_answer}
@@ -38,6 +38,17 @@ read_is m s out a e = ⊎_elim
 pub read_short : (o : Option (List ℕ)) (n : ℕ) → Fitting o → option_map length o ≡ Some n → n ≤ 56
 read_short None n f e = let z : ◌≡◌ {A = ℕ} 0 1 = cc in absurd (omega arith)
 read_short (Some b) n f e = let l : length b ≡ n = cc in omega arith
+
+-- a string over the first 56 bytes, with the others behind them, is the string over them all
+pub with_string-front : (o : Option (List ℕ)) (out : List ℕ) → Fitting o → with_string o (take 56 out) ++ drop 56 out ≡ with_string o out
+with_string-front None out f = take-append-drop 56 out
+with_string-front (Some b) out f =
+    let k : ℕ = 56 - length b in
+    let whole : length b + k ≡ 56 = omega arith in
+    let rest : List ℕ = drop (length b) out in
+    let front : drop (length b) (take 56 out) ≡ take k rest = ap (λ n. drop (length b) (take n out)) (sym whole) ∙ drop-take (length b) k out in
+    let back : drop 56 out ≡ drop k rest = ap (λ n. drop n out) (sym whole) ∙ sym (drop-drop k (length b) out) in
+    append_assoc b _ _ ∙ ap (λ z. b ++ z) (ap₂ (λ x y. x ++ y) front back ∙ take-append-drop k rest)
 
 -- the string of a known section
 pub string_done : (m : Meaning) (s : ℕ) → known s ≡ true → string_answer m s ≡ Ok (m.string s)

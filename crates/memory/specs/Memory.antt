@@ -28,9 +28,9 @@ number BufferTooShort = 10
 abbrev pub refusal : ℕ → Refusal
 refusal n = cond (n == 7) UnknownSection (cond (n == 8) StringTooLong (cond (n == 9) NoWritesLeft BufferTooShort))
 
--- refused by a number where its cause holds, else as the next cause says
-abbrev pub refuse : {A : Type 0} → Bool → ℕ → Result A Refusal → Result A Refusal
-refuse cause n next = cond cause (Err (refusal n)) next
+-- a refusal where its cause holds, else what the next cause says
+abbrev pub refuse : {A : Type 0} → Bool → Refusal → Result A Refusal → Result A Refusal
+refuse cause why next = cond cause (Err why) next
 
 -- the named section alone changes, and the change is paid for
 abbrev pub changed : Meaning → ℕ → Option (List ℕ) → Meaning
@@ -43,7 +43,7 @@ keepable s b = known s && nat_le (length b) 56
 -- what keep answers
 abbrev pub keep_answer : Meaning → ℕ → List ℕ → Result (Unit {0}) Refusal
 keep_answer m s b =
-    refuse (not (known s)) 7 (refuse (nat_lt 56 (length b)) 8 (refuse (nat_lt m.left m.price) 9 (Ok tt)))
+    refuse (not (known s)) UnknownSection (refuse (nat_lt 56 (length b)) StringTooLong (refuse (nat_lt m.left m.price) NoWritesLeft (Ok tt)))
 
 -- what keep leaves
 abbrev pub keep_after : Meaning → ℕ → List ℕ → Meaning
@@ -51,7 +51,7 @@ keep_after m s b = cond (is_ok (keep_answer m s b)) (changed m s (Some b)) m
 
 -- what erase answers
 abbrev pub erase_answer : Meaning → ℕ → Result (Unit {0}) Refusal
-erase_answer m s = refuse (not (known s)) 7 (refuse (nat_lt m.left m.price) 9 (Ok tt))
+erase_answer m s = refuse (not (known s)) UnknownSection (refuse (nat_lt m.left m.price) NoWritesLeft (Ok tt))
 
 -- what erase leaves
 abbrev pub erase_after : Meaning → ℕ → Meaning
@@ -59,7 +59,7 @@ erase_after m s = cond (is_ok (erase_answer m s)) (changed m s None) m
 
 -- what read answers over a buffer of n bytes: the length of the string, or none
 abbrev pub read_answer : Meaning → ℕ → ℕ → Result (Option ℕ) Refusal
-read_answer m s n = refuse (not (known s)) 7 (refuse (nat_lt n 56) 10 (Ok (option_map length (m.string s))))
+read_answer m s n = refuse (not (known s)) UnknownSection (refuse (nat_lt n 56) BufferTooShort (Ok (option_map length (m.string s))))
 
 -- the buffer with the string, if there is one, over its start
 abbrev pub with_string : Option (List ℕ) → List ℕ → List ℕ
@@ -72,7 +72,7 @@ read_out m s out = cond (is_ok (read_answer m s (length out))) (with_string (m.s
 
 -- the string of a section, for whoever has room for every string
 abbrev pub string_answer : Meaning → ℕ → Result (Option (List ℕ)) Refusal
-string_answer m s = refuse (not (known s)) 7 (Ok (m.string s))
+string_answer m s = refuse (not (known s)) UnknownSection (Ok (m.string s))
 
 -- an answer that lends the string, as the string itself
 abbrev pub lent : Result (Option (Bor (List ℕ))) Refusal → Result (Option (List ℕ)) Refusal

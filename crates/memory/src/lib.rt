@@ -1,8 +1,9 @@
 // The settings memory: what every make of it answers and leaves.
 #![tactic(auto)]
 
-ghost use Rattle.std.specs.Prelude.{◌≡◌, length};
-ghost use Rattle.memory.specs.Memory.{Meaning, Limits, known, number, refusal, keep_answer, keep_after, erase_answer, erase_after, read_answer, read_out, string_answer, lent};
+ghost use Rattle.std.specs.Prelude.{◌≡◌, ◌<◌, ◌≤◌, not, length, MatchResult};
+ghost use Rattle.memory.specs.declared.Refusal.TheVariants.{StringTooLong};
+ghost use Rattle.memory.specs.Memory.{Meaning, Limits, known, number, refusal, refuse, keep_answer, keep_after, erase_answer, erase_after, read_answer, read_out, string_answer, lent};
 
 // Why a memory refuses a call; a refused call changes nothing.
 #[derive(Clone, Copy, PartialEq, Eq, Debug)]
@@ -30,17 +31,43 @@ pub const LONGEST: usize = 56;
 pub fn is_known(section: u8) -> bool
     ensures { result ≡ known section }
 {
-    section < 2 || section > 2 && section < 6
+    matches!(section, 0 | 1 | 3..=5)
+}
+
+// Refuses a number that is no section's.
+pub fn check_section(section: u8) -> Result<(), Refusal>
+    ensures { result ≡ refuse (not (known section)) Refusal.UnknownSection (Ok tt) }
+{
+    if !is_known(section) {
+        return Err(Refusal::UnknownSection);
+    }
+    Ok(())
+}
+
+// A string that a section may hold.
+#[derive(Clone, Copy, Drop)]
+pub struct ShortString<'a> {
+    pub bytes: &'a [u8],
+    ghost short: { length bytes.now ≤ 56 },
+}
+
+impl<'a> TryFrom<&'a [u8]> for ShortString<'a> {
+    type Error = Refusal;
+
+    // The same bytes, or the refusal of a string that is too long.
+    ghost try_from_gives = { λ bytes r. MatchResult r (λ s. s.bytes.now ≡ bytes.now) (λ e. (e ≡ StringTooLong) × (56 < length bytes.now)) };
+
+    fn try_from(bytes: &'a [u8]) -> Result<ShortString<'a>, Refusal> {
+        if bytes.len() > LONGEST {
+            return Err(Refusal::StringTooLong);
+        }
+        Ok(ShortString { bytes })
+    }
 }
 
 // A memory that keeps one string, or none, for each of the five sections.
 pub trait SettingsMemory {
     ghost meaning: { Self → Meaning };
-
-    ghost limits: { (x : Self) → Limits (meaning x) };
-
-    // One price for the make.
-    ghost fixed: { (x y : Self) → (meaning x).price ≡ (meaning y).price };
 
     fn keep(&mut self, section: u8, bytes: &[u8]) -> Result<(), Refusal>
         ensures answer { result ≡ keep_answer (meaning self.old) section bytes.now }
@@ -60,6 +87,11 @@ pub trait SettingsMemory {
 
     fn price(&self) -> usize
         ensures { result ≡ (meaning self.now).price };
+
+    // Laws of every make: its limits, and one price for the make.
+    ghost limits: { (x : Self) → Limits (meaning x) };
+
+    ghost fixed: { (x y : Self) → (meaning x).price ≡ (meaning y).price };
 }
 
 // The string of a section, read through a buffer with room for every string.

@@ -6,7 +6,7 @@ pub slice_bounds-result-end : goal.slice_bounds-result-end
 slice_bounds-result-end g c =
     let m = g.M.SettingsMemory.meaning c.args.memory.now in
     let is = read_is m c.args.section c.args.buffer.now (Some c.in-Some.n) (sym c.read.ensures.answer ∙ c.in_ok-n.was ∙ ap Ok c.in-Some.is) in
-    let l : c.in-Some.n ≤ 56 = read_short (m.string c.args.section) c.in-Some.n ((g.M.SettingsMemory.limits c.args.memory.now).short c.args.section) is.2 in
+    let l : c.in-Some.n ≤ 56 = read_short (m.string c.args.section) c.in-Some.n ((g.met.M.SettingsMemory.limits c.args.memory.now).short c.args.section) is.2 in
     search rules
 
 pub returns : goal.returns

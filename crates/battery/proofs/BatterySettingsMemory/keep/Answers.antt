@@ -1,4 +1,4 @@
-use Rattle.std.proofs.Common.{◌≡◌, ◌≤◌, true, cond, length, is_ok, sym, ap, ◌∙◌, arith, rules}
+use Rattle.std.proofs.Common.{◌≡◌, ◌≤◌, true, cond, length, is_ok, sym, ap, ◌∙◌, ap₂, arith, rules}
 use Rattle.std.proofs.lemmas.Bool.{and_from, le-leb}
 use Rattle.std.proofs.lemmas.Bool.Decides.{nat_tests}
 use Rattle.memory.specs.Memory.{known}
@@ -14,9 +14,10 @@ returns c =
     let b = c.args.bytes.now in
     let k : known s ≡ true = grind (arith, nat_tests) in
     let a : c.in_ok-at.at ≡ start s = grind (arith, nat_tests) in
-    let few : length b ≤ 56 = c.fill.ensures.fits in
+    let same = rw c.in_ok-string.was at c.try_from.ensures in
+    let few : length b ≤ 56 = rw same at c.in_ok-string.string.short in
     let d = keep_done (battery_meaning xs) s k (omega arith) b few in
-    let written : c.fill.new.image ≡ filled (start s) b xs = c.fill.ensures.image ∙ ap (λ i. filled i b xs) a in
+    let written : c.fill.new.image ≡ filled (start s) b xs = c.fill.ensures ∙ ap₂ (λ i w. filled i w xs) a same in
     record {
       answer = sym d.0;
       after = ap battery_meaning written ∙ kept xs s b k (search rules) few ∙ sym d.1;

@@ -1,14 +1,11 @@
-use Rattle.std.proofs.Common.{◌≡◌, sym, ap, ◌∙◌, ⊎_elim, arith}
-use Rattle.std.proofs.lemmas.Bool.{cases_eq}
-use Rattle.journal.specs.Slots.{slot, names}
+use Rattle.std.proofs.Common.{rules}
+use Rattle.journal.specs.Slots.{names}
+use Rattle.journal.proofs.Search.{last_passing, found_from}
 use Rattle.journal.proofs.slots.latest_slot.Goals as goal
 
-pub loop-k-preserved : goal.loop-k-preserved
-loop-k-preserved c j from within =
+pub returns : goal.returns
+returns c =
     let xs = c.args.image.now in
     let s = c.args.section in
-    let i = c.from_end-i.result in
-    ⊎_elim
-    (λ (e : j ≡ i). ap (λ n. names (slot xs n) s) e ∙ ap (λ p. names p s) (sym c.slot_at.ensures.value) ∙ sym c.names_section.ensures ∙ c.if-names_section.false)
-    (λ (ne : j ≡ i → ⊥). c.loop-k.invariant j (omega arith) within)
-    (cases_eq j i)
+    found_from xs s c.rposition.result
+    (last_passing xs (λ p. names p s) _ _ (λ x b q k. search rules) c.rposition.result c.iter.result c.slots_of-slots.result.now c.iter.ensures.rest c.slots_of-slots.ensures.count c.slots_of-slots.ensures.each c.iter.ensures.runs_back c.rposition.ensures.bound c.rposition.ensures.runs)
