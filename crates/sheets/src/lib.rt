@@ -3,8 +3,6 @@
 
 mod refusal;
 mod sheet;
-mod text;
-mod writing;
 
 pub use refusal::Refusal;
 pub use sheet::write_sheet;

@@ -4,7 +4,7 @@ ghost use Rattle.sheets.specs.Sheet.{number};
 
 #[derive(Clone, Copy, Debug, PartialEq, Eq)]
 pub enum Refusal {
-    OutputTooShort,
+    OutputTooShort = 6,
 }
 
 impl Refusal {
@@ -12,8 +12,6 @@ impl Refusal {
     pub fn number(self) -> u8
         ensures { result ≡ number self }
     {
-        match self {
-            Refusal::OutputTooShort => 6,
-        }
+        self as u8
     }
 }

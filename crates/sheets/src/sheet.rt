@@ -1,51 +1,75 @@
 // The sheet of the settings, and its writer.
-ghost use Rattle.std.specs.Prelude.{◌≡◌, ◌≤◌, ◌++◌, length};
+ghost use Rattle.std.specs.Prelude.{◌≡◌, ◌+◌, ◌≤◌, [], ◌∷◌, ◌++◌, length, decimal};
 ghost use Rattle.settings.specs.Values.{values};
 ghost use Rattle.commands.specs.Settings.{configuration};
-ghost use Rattle.sheets.specs.Sheet.{values_line, text_written, sheet_written};
-ghost use Rattle.sheets.specs.Texts.{written};
+ghost use Rattle.sheets.specs.Sheet.{values_line, sheet_text, sheet_written};
 
 use crate::refusal::Refusal;
-use crate::text::Text;
 use settings::Settings;
+use texts::Text;
+
+// The least room for a sheet.
+const ROOM: usize = 96;
+
+// A number in its at most five digits.
+#[tactic(auto, using(crate::proofs::Digits::five_digits))]
+fn number(text: &mut Text<ROOM>, n: u16)
+    requires { length text.old + 5 ≤ 96 }
+    ensures text { text.new ≡ text.old ++ decimal n }
+    ensures len { length text.new ≤ length text.old + 5 }
+{
+    text.decimal(u32::from(n));
+}
+
+// A comma, and a number behind it.
+fn field(text: &mut Text<ROOM>, n: u16)
+    requires { length text.old + 6 ≤ 96 }
+    ensures text { text.new ≡ text.old ++ (44 ∷ []) ++ decimal n }
+    ensures len { length text.new ≤ length text.old + 6 }
+{
+    text.push(b',');
+    number(text, n);
+}
 
 // The eight values, with a comma between two of them and LF at the end.
-fn values_line(settings: &Settings) -> Text
-    ensures text { written result ≡ values_line (configuration (values settings.now)) }
-    ensures len { result.len ≤ 48 }
+fn values_line(settings: &Settings) -> Text<ROOM>
+    ensures text { result ≡ values_line (configuration (values settings.now)) }
+    ensures len { length result ≤ 48 }
 {
     let [gga, gll, rmc, zda, utc] = settings.messages.rates();
     let mut text = Text::new();
-    text.decimal(settings.baud.code as u16);
-    text.field(gga as u16);
-    text.field(gll as u16);
-    text.field(rmc as u16);
-    text.field(zda as u16);
-    text.field(utc as u16);
-    text.field(settings.interval.milliseconds);
-    text.field(settings.systems.mask as u16);
+    number(&mut text, u16::from(settings.baud.code));
+    field(&mut text, u16::from(gga));
+    field(&mut text, u16::from(gll));
+    field(&mut text, u16::from(rmc));
+    field(&mut text, u16::from(zda));
+    field(&mut text, u16::from(utc));
+    field(&mut text, settings.interval.milliseconds);
+    field(&mut text, u16::from(settings.systems.mask));
     text.push(b'\n');
     text
 }
 
-// Writes a line of names and the line of values to the start of `out`.
-fn write_lines(names: &[u8], settings: &Settings, out: &mut [u8]) -> Result<usize, Refusal>
-    requires { length names.now ≤ 48 }
-    ensures { (result, out.new) ≡ text_written (names.now ++ values_line (configuration (values settings.now))) out.old }
+// The line of names, and the line of values.
+fn sheet(settings: &Settings) -> Text<ROOM>
+    ensures text { result ≡ sheet_text (configuration (values settings.now)) }
+    ensures len { length result ≤ 96 }
 {
     let mut text = Text::new();
-    text.append(names);
+    text.append(b"baud,gga,gll,rmc,zda,utc,interval,systems\n");
     text.append(values_line(settings).as_bytes());
-    text.write_to(out)
+    text
 }
 
 // Writes the sheet to the start of `out` and gives its length; an output below 96 bytes is refused.
 pub fn write_sheet(settings: &Settings, out: &mut [u8]) -> Result<usize, Refusal>
     ensures { (result, out.new) ≡ sheet_written (configuration (values settings.now)) out.old }
 {
-    write_lines(
-        b"baud,gga,gll,rmc,zda,utc,interval,systems\n",
-        settings,
-        out,
-    )
+    if out.len() < ROOM {
+        return Err(Refusal::OutputTooShort);
+    }
+    let text = sheet(settings);
+    let bytes = text.as_bytes();
+    out[..bytes.len()].copy_from_slice(bytes);
+    Ok(bytes.len())
 }

@@ -1,9 +1,0 @@
-use Rattle.std.proofs.Common.{refl, arith, rules}
-use Rattle.std.proofs.lemmas.Slice.{overwrites}
-use Rattle.sheets.proofs.text.Text.append.Goals as goal
-
-pub invariant_of-self : goal.invariant_of-self
-invariant_of-self c = record { whole = search (rules, overwrites); within = omega arith }
-
-pub returns : goal.returns
-returns c = record { text = search (rules, overwrites); len = refl }
