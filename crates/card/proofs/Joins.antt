@@ -1,5 +1,5 @@
 -- The unread bytes joined with the new ones, and what stays unread of them.
-use Rattle.std.proofs.Common.{◌≡◌, ℕ, ◌+◌, ◌-◌, ◌≤◌, List, ◌++◌, length, take, drop, Ok, sym, refl, ap, ◌∙◌, subst, arith, length-drop, length-take, length-take-le}
+use Rattle.std.proofs.Common.{◌≡◌, ℕ, ◌-◌, ◌≤◌, List, [], ◌++◌, append-nil, length, take, drop, Ok, sym, refl, ap, ◌∙◌, subst, arith, length-drop, length-take, length-take-le}
 use Rattle.std.proofs.lemmas.List.{take_all, take-append-drop}
 use Rattle.wire.specs.declared.reading.Ending.{Ending}
 use Rattle.wire.specs.Reading.{reading}
@@ -16,15 +16,12 @@ use Rattle.card.specs.Hearing.{Heard}
 pub few : (ending : Ending) (all : List ℕ) (at n : ℕ) → drop at all ≡ (reading ending all 0).unread → length (take n (drop at all)) ≤ 81
 few ending all at n e = simp length-take (omega (arith, ap length e, few_unread ending all 0 all))
 
-pub whole : (unread bytes joined : List ℕ) (len : ℕ) → len ≤ length unread → take (length (take (len - 0) unread) + length bytes) joined ≡ take (len - 0) unread ++ bytes → take (len + length bytes - 0) joined ≡ take len unread ++ bytes
-whole unread bytes joined len h e =
-    let z : len - 0 ≡ len = omega arith in
-    let l : length (take (len - 0) unread) ≡ len = ap (λ n. length (take n unread)) z ∙ length-take-le len unread h in
-    let n : len + length bytes - 0 ≡ length (take (len - 0) unread) + length bytes = omega arith in
-    ap (λ n. take n joined) n ∙ e ∙ ap (λ n. take n unread ++ bytes) z
-
 pub left : (all : List ℕ) (at n : ℕ) → length all ≤ n → take (n - at) (drop at all) ≡ drop at all
 left all at n h = take_all (n - at) (drop at all) (simp length-drop (omega arith))
+
+-- the bytes behind a place are kept as reading leaves them
+pub kept : (ending : Ending) (all rest : List ℕ) (at : ℕ) → rest ≡ take (length all - at) (drop at all) ++ [] → drop at all ≡ (reading ending all 0).unread → rest ≡ (reading ending all 0).unread
+kept ending all rest at is e = is ∙ append-nil (take (length all - at) (drop at all)) ∙ left all at (length all) (omega arith) ∙ e
 
 -- what stays unread waits for more; after a pause that is nothing
 pub waits_on : (ending : Ending) (all : List ℕ) → Waiting (reading ending all 0).unread

@@ -8,6 +8,7 @@ use Rattle.wire.specs.Frames.{frame, lawful_length}
 use Rattle.wire.specs.Items.{frame_item}
 use Rattle.wire.specs.Writes.{frame_written}
 use Rattle.wire.proofs.Judgement.{sizes}
+use Rattle.rule.specs.Calls.{over}
 
 -- what was written at the start of the bytes from a place on
 module _ (f xs ys : List ℕ) (a : ℕ) (room : a + length f ≤ length xs) (is : ys ≡ f ++ drop (length f) (mid_of a (length xs - a) xs)) where
@@ -39,21 +40,12 @@ frame_fits class id payload out lawful room =
     cond-true (lawful_length (length payload)) _ _ lawful ∙ cond-true (leb (length (frame class id payload)) (length out)) _ _ (le-leb _ _ enough)
     ∙ (λ i. (Ok (size i), frame class id payload ++ drop (size i) out))
 
--- a lawful frame, written to the bytes from a place on
-pub frame_put : (class id : ℕ) (payload xs ys : List ℕ) (a : ℕ) (r : Result ℕ Refusal) → lawful_length (length payload) ≡ true → a + (length payload + 10) ≤ length xs → (r, ys) ≡ frame_written class id payload (mid_of a (length xs - a) xs)
-    → (r ≡ Ok (length payload + 10)) × (take (a + (length payload + 10)) (put_mid a (length xs - a) xs ys) ≡ take a xs ++ frame class id payload) × (drop (a + (length payload + 10)) (put_mid a (length xs - a) xs ys) ≡ drop (a + (length payload + 10)) xs)
-frame_put class id payload xs ys a r lawful room e =
-    let part = mid_of a (length xs - a) xs in
-    let f = frame class id payload in
-    let size : length f ≡ length payload + 10 = sizes (frame_item class id payload) in
-    let long : length part ≡ length xs - a = ap length (take_all (length xs - a) (drop a xs) (simp length-drop (omega arith))) ∙ length-drop a xs in
-    let both = e ∙ frame_fits class id payload part lawful (omega arith) in
-    let is : ys ≡ f ++ drop (length f) part = ap (λ p. p.1) both ∙ ap (λ n. f ++ drop n part) (sym size) in
-    let fits : a + length f ≤ length xs = omega (arith, size) in
-    let front = put_front f xs ys a fits is in
-    let behind = put_behind f xs ys a fits is in
-    let whole = put_mid a (length xs - a) xs ys in
-    (ap (λ p. p.0) both, ap (λ n. take (a + n) whole) (sym size) ∙ front, ap (λ n. drop (a + n) whole) (sym size) ∙ behind ∙ ap (λ n. drop (a + n) xs) size)
+-- a lawful frame that fits stands at the output's start
+pub frame_put : (class id : ℕ) (payload out after : List ℕ) (r : Result ℕ Refusal) → lawful_length (length payload) ≡ true → length payload + 10 ≤ length out → (r, after) ≡ frame_written class id payload out
+    → (r ≡ Ok (length payload + 10)) × (after ≡ over (frame class id payload) out)
+frame_put class id payload out after r lawful room e =
+    let both = e ∙ frame_fits class id payload out lawful room in
+    (ap (λ p. p.0) both, ap (λ p. p.1) both ∙ ap (λ n. frame class id payload ++ drop n out) (sym (sizes (frame_item class id payload))))
 
 -- the number in an answer
 abbrev pub number_in : {E : Type 0} → Result ℕ E → ℕ

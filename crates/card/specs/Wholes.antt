@@ -1,5 +1,5 @@
 -- What the code's values stand for.
-use Rattle.std.specs.Prelude.{ℕ, cond, List, length, take, Ok, Err, Result, nat_lt}
+use Rattle.std.specs.Prelude.{ℕ, cond, List, length, Ok, Err, Result, nat_lt}
 use Rattle.memory.specs.declared.Refusal.{Refusal as MemoryRefusal}
 use Rattle.memory.specs.Memory.{Meaning, number}
 use Rattle.inforce.specs.Has.{state_of}
@@ -12,7 +12,7 @@ use Rattle.card.specs.declared.refusal.Refusal.TheVariants.{SendTooLong, ReplyTo
 
 -- a card, where f says what its memory means
 abbrev pub whole_of : {A : Type 0} → (A → Meaning) → Card A → Whole
-whole_of f c = record { state = state_of f c.inside; unread = take c.len c.unread }
+whole_of f c = record { state = state_of f c.inside; unread = c.unread.items }
 
 -- the number of each refusal
 abbrev pub number_of : Refusal → ℕ

@@ -1,92 +1,87 @@
-// What a frame draws, written behind what is written already.
-ghost use Rattle.std.specs.Prelude.{◌≡◌, ◌+◌, ◌≤◌, true, ◌++◌, length, take, drop};
+// What a frame draws, written to the start of an output.
+ghost use Rattle.std.specs.Prelude.{◌≡◌, ◌+◌, ◌≤◌, true, [], ◌∷◌, length};
 ghost use Rattle.wire.specs.Frames.{frame, lawful_length};
 ghost use Rattle.wire.specs.Seen.{item_of};
 ghost use Rattle.commands.specs.Commands.{told_payload};
+ghost use Rattle.rule.specs.Calls.{over};
 ghost use Rattle.rule.specs.Saying.{drawn, answers_to, accepts, turns_down, written, AllLawful};
 ghost use Rattle.inforce.specs.Has.{settings_of};
 ghost use Rattle.card.specs.Hearing.{most};
 
 use commands::{Outcome, Query};
 use settings::Settings;
-use wire::{Item, write_frame};
+use wire::{Frame, Item};
 
 // The class of the answers ACK and NACK.
 const ACKNOWLEDGE: u8 = 0x05;
 
-// Writes a frame from a place on, and gives its length.
-fn put_frame(class: u8, id: u8, payload: &[u8], reply: &mut [u8], at: usize) -> usize
-    requires lawful { lawful_length (length payload.now) ≡ true }
-    requires room { at + (length payload.now + 10) ≤ length reply.old }
-    ensures size { result ≡ length payload.now + 10 }
-    ensures wrote { take (at + result) reply.new ≡ take at reply.old ++ frame class id payload.now }
-    ensures behind { drop (at + result) reply.new ≡ drop (at + result) reply.old }
+// Writes a lawful frame that fits, and gives its length.
+fn put_frame(answer: Frame<'_>, out: &mut [u8]) -> usize
+    requires lawful { lawful_length (length answer.payload.now) ≡ true }
+    requires room { length answer.payload.now + 10 ≤ length out.old }
+    ensures size { result ≡ length answer.entry.payload.now + 10 }
+    ensures wrote { out.new ≡ over (frame answer.entry.class answer.entry.id answer.entry.payload.now) out.old }
 {
-    match write_frame(class, id, payload, &mut reply[at..]) {
-        Ok(written) => written,
-        Err(_) => 0,
-    }
+    answer.write(out).unwrap_or(0)
+}
+
+// Acknowledges a frame, by the id of ACK or of NACK.
+fn acknowledge(id: u8, sent: Frame<'_>, out: &mut [u8]) -> usize
+    requires { 66 ≤ length out.old }
+    ensures size { result ≡ 14 }
+    ensures wrote { out.new ≡ over (frame 0x05 id (sent.entry.class ∷ sent.entry.id ∷ 0 ∷ 0 ∷ [])) out.old }
+{
+    let answer = Frame {
+        class: ACKNOWLEDGE,
+        id,
+        payload: &[sent.class, sent.id, 0, 0],
+    };
+    put_frame(answer, out)
 }
 
 // Tells a setting in force, in the same frame as its query.
-fn put_told(
-    class: u8,
-    id: u8,
-    query: Query,
-    settings: &Settings,
-    reply: &mut [u8],
-    at: usize,
-) -> usize
-    requires room { at + 66 ≤ length reply.old }
-    ensures wrote { take (at + result) reply.new ≡ take at reply.old ++ frame class id (told_payload query (settings_of settings.now)) }
+fn put_told(sent: Frame<'_>, query: Query, settings: &Settings, out: &mut [u8]) -> usize
+    requires { 66 ≤ length out.old }
+    ensures size { result ≡ length (told_payload query (settings_of settings.now)) + 10 }
+    ensures wrote { out.new ≡ over (frame sent.entry.class sent.entry.id (told_payload query (settings_of settings.now))) out.old }
     ensures lawful { lawful_length (length (told_payload query (settings_of settings.now))) ≡ true }
-    ensures behind { drop (at + result) reply.new ≡ drop (at + result) reply.old }
     ensures few { result ≤ 66 }
 {
     let mut buffer = [0; 56];
     let n = query.payload(settings, &mut buffer);
-    put_frame(class, id, &buffer[0..n], reply, at)
+    let answer = Frame {
+        payload: &buffer[..n],
+        ..sent
+    };
+    put_frame(answer, out)
 }
 
-// Writes what a frame draws from a place on, and gives how many bytes that are.
-fn answer_frame(
-    class: u8,
-    id: u8,
-    outcome: Outcome,
-    settings: &Settings,
-    reply: &mut [u8],
-    at: usize,
-) -> usize
-    requires room { at + 66 ≤ length reply.old }
-    ensures wrote { take (at + result) reply.new ≡ take at reply.old ++ written (drawn class id outcome (settings_of settings.now)) }
-    ensures lawful { AllLawful (drawn class id outcome (settings_of settings.now)) }
-    ensures behind { drop (at + result) reply.new ≡ drop (at + result) reply.old }
+// Writes what a frame draws, and gives how many bytes that are.
+fn answer_frame(sent: Frame<'_>, outcome: Outcome, settings: &Settings, out: &mut [u8]) -> usize
+    requires { 66 ≤ length out.old }
+    ensures size { result ≡ length (written (drawn sent.entry.class sent.entry.id outcome (settings_of settings.now))) }
+    ensures wrote { out.new ≡ over (written (drawn sent.entry.class sent.entry.id outcome (settings_of settings.now))) out.old }
+    ensures lawful { AllLawful (drawn sent.entry.class sent.entry.id outcome (settings_of settings.now)) }
     ensures few { result ≤ 66 }
 {
     match outcome {
         Outcome::PassedOver => 0,
-        Outcome::TurnedDown => put_frame(ACKNOWLEDGE, 0x00, &[class, id, 0, 0], reply, at),
-        Outcome::Done => put_frame(ACKNOWLEDGE, 0x01, &[class, id, 0, 0], reply, at),
-        Outcome::Told(query) => put_told(class, id, query, settings, reply, at),
+        Outcome::TurnedDown => acknowledge(0x00, sent, out),
+        Outcome::Done => acknowledge(0x01, sent, out),
+        Outcome::Told(query) => put_told(sent, query, settings, out),
     }
 }
 
 // The same for a frame or a sentence; a sentence draws nothing.
-pub(crate) fn answer(
-    item: Item<'_>,
-    outcome: Outcome,
-    settings: &Settings,
-    reply: &mut [u8],
-    at: usize,
-) -> usize
-    requires room { at + most (item_of item) ≤ length reply.old }
-    ensures wrote { take (at + result) reply.new ≡ take at reply.old ++ written (answers_to (item_of item.entry) outcome (settings_of settings.now)) }
+pub(crate) fn answer(item: Item<'_>, outcome: Outcome, settings: &Settings, out: &mut [u8]) -> usize
+    requires { most (item_of item) ≤ length out.old }
+    ensures size { result ≡ length (written (answers_to (item_of item.entry) outcome (settings_of settings.now))) }
+    ensures wrote { out.new ≡ over (written (answers_to (item_of item.entry) outcome (settings_of settings.now))) out.old }
     ensures lawful { AllLawful (answers_to (item_of item.entry) outcome (settings_of settings.now)) }
-    ensures behind { drop (at + result) reply.new ≡ drop (at + result) reply.old }
     ensures few { result ≤ most (item_of item.entry) }
 {
     match item {
-        Item::Frame(frame) => answer_frame(frame.class, frame.id, outcome, settings, reply, at),
+        Item::Frame(frame) => answer_frame(frame, outcome, settings, out),
         Item::Sentence(_) => 0,
     }
 }

@@ -8,6 +8,7 @@ use crate::hearing::hear_all;
 use crate::parts::Card;
 use crate::refusal::Refusal;
 use crate::tally::Tally;
+use arrayvec::ArrayVec;
 use inforce::InForce;
 use memory::SettingsMemory;
 use sheets::write_sheet;
@@ -19,22 +20,15 @@ const LONGEST_SEND: usize = 256;
 // The least room for a reply.
 const REPLY_ROOM: usize = 2304;
 
-// Copies two parts to the start of `into`, one behind the other.
-fn join(into: &mut [u8], front: &[u8], back: &[u8])
-    requires { length front.now + length back.now ≤ length into.old }
-    ensures { take (length front.now + length back.now) into.new ≡ front.now ++ back.now }
+// Two runs of bytes that there is room for, one behind the other.
+fn joined<const N: usize>(front: &[u8], back: &[u8]) -> ArrayVec<u8, N>
+    requires { length front.now + length back.now ≤ N }
+    ensures { result.items ≡ front.now ++ back.now }
 {
-    let mid = front.len();
-    into[0..mid].copy_from_slice(front);
-    into[mid..mid + back.len()].copy_from_slice(back);
-}
-
-// Copies a part to the start of `into`.
-fn keep(into: &mut [u8], rest: &[u8])
-    requires { length rest.now ≤ length into.old }
-    ensures { take (length rest.now) into.new ≡ rest.now }
-{
-    into[0..rest.len()].copy_from_slice(rest);
+    let mut all = ArrayVec::new();
+    let _ = all.try_extend_from_slice(front);
+    let _ = all.try_extend_from_slice(back);
+    all
 }
 
 impl<M: SettingsMemory> Card<M> {
@@ -44,8 +38,7 @@ impl<M: SettingsMemory> Card<M> {
     {
         Card {
             inside: InForce::build(memory),
-            unread: [0; 81],
-            len: 0,
+            unread: ArrayVec::new(),
         }
     }
 
@@ -60,22 +53,12 @@ impl<M: SettingsMemory> Card<M> {
         requires room { 2304 ≤ length reply.old }
         ensures { (b : State) (h : History) → Keeps b h (whole_of M.meaning self.old) → Goes b (hears b h ending bytes.now) (memory_answer result) reply.old reply.new (whole_of M.meaning self.new) }
     {
-        let mut joined = [0u8; 337];
-        let first = self.len;
-        let total = first + bytes.len();
-        join(&mut joined, &self.unread[0..first], bytes);
-        let all = &joined[0..total];
+        let whole = joined::<337>(self.unread.as_slice(), bytes);
+        let all = whole.as_slice();
         let mut place = Place { at: 0 };
-        let mut tally = Tally {
-            written: 0,
-            accepted: 0,
-            down: 0,
-        };
+        let mut tally = Tally::default();
         hear_all(&mut self.inside, all, ending, reply, &mut place, &mut tally)?;
-        let at = place.at;
-        let rest = &all[at..total];
-        keep(&mut self.unread, rest);
-        self.len = rest.len();
+        self.unread = joined(&all[place.at..], &[]);
         Ok((tally.written, tally.accepted, tally.down))
     }
 
@@ -89,10 +72,7 @@ impl<M: SettingsMemory> Card<M> {
         if reply.len() < REPLY_ROOM {
             return Err(Refusal::ReplyTooShort);
         }
-        match self.hear(bytes, Ending::More, reply) {
-            Ok(numbers) => Ok(numbers),
-            Err(refusal) => Err(Refusal::Memory(refusal)),
-        }
+        Ok(self.hear(bytes, Ending::More, reply)?)
     }
 
     // The line pauses: what is unfinished fails, and nothing stays unread.
@@ -102,10 +82,7 @@ impl<M: SettingsMemory> Card<M> {
         if reply.len() < REPLY_ROOM {
             return Err(Refusal::ReplyTooShort);
         }
-        match self.hear(&[], Ending::Pause, reply) {
-            Ok(numbers) => Ok(numbers),
-            Err(refusal) => Err(Refusal::Memory(refusal)),
-        }
+        Ok(self.hear(&[], Ending::Pause, reply)?)
     }
 
     // Power comes back: unread bytes are dropped, and every setting takes its kept or factory value.
@@ -113,16 +90,13 @@ impl<M: SettingsMemory> Card<M> {
         ensures { (b : State) (h : History) → Keeps b h (whole_of M.meaning self.old) → Keeps b (power_turn h).next (whole_of M.meaning self.new) }
     {
         self.inside.power();
-        self.len = 0;
+        self.unread.clear();
     }
 
     // Writes the sheet of the settings in force, and gives its length.
     pub fn sheet(&self, output: &mut [u8]) -> Result<usize, Refusal>
         ensures { (b : State) (h : History) → Keeps b h (whole_of M.meaning self.now) → (answer_of result, output.new) ≡ sheet_answer (in_force b h.events) output.old }
     {
-        match write_sheet(self.inside.settings(), output) {
-            Ok(written) => Ok(written),
-            Err(_) => Err(Refusal::SheetTooShort),
-        }
+        Ok(write_sheet(self.inside.settings(), output)?)
     }
 }

@@ -33,7 +33,12 @@ fn hear_item<M: SettingsMemory>(
     ensures heard { (b : State) (s : Said) → Heard b s tally.old reply.old (state_of M.meaning inside.old) → Heard b (spoken b s (item_of item.entry)) tally.new reply.new (state_of M.meaning inside.new) }
 {
     let outcome = inside.obey(decode(item))?;
-    let n = answer(item, outcome, inside.settings(), reply, tally.written);
+    let n = answer(
+        item,
+        outcome,
+        inside.settings(),
+        &mut reply[tally.written..],
+    );
     tally.written += n;
     tally.accepted += accepts(outcome);
     tally.down += turns_down(outcome);
@@ -60,12 +65,8 @@ pub(crate) fn hear_all<M: SettingsMemory>(
     ensures behind { drop tally.new.written reply.new ≡ drop tally.new.written reply.old }
     ensures heard { (b : State) (h : List Event) → Follows b h (state_of M.meaning inside.old) → Heard b (told b (opened h) (items ending bytes.now)) tally.new reply.new (state_of M.meaning inside.new) }
 {
-    while place.at < bytes.len() {
-        match read_next(bytes, ending, place) {
-            Found::Good(_, item) => hear_item(inside, item, reply, tally)?,
-            Found::Unfinished(_) => return Ok(()),
-            Found::End => return Ok(()),
-        }
+    while let Found::Good(_, item) = read_next(bytes, ending, place) {
+        hear_item(inside, item, reply, tally)?;
     }
     Ok(())
 }

@@ -1,5 +1,6 @@
 // Why a card refuses a call; a refused call changes nothing.
 ghost use Rattle.std.specs.Prelude.{◌≡◌};
+ghost use Rattle.card.specs.declared.refusal.Refusal.TheVariants.{SheetTooShort, Memory};
 ghost use Rattle.card.specs.Wholes.{number_of};
 
 #[derive(Clone, Copy, PartialEq, Eq, Debug)]
@@ -8,6 +9,24 @@ pub enum Refusal {
     ReplyTooShort,
     SheetTooShort,
     Memory(memory::Refusal),
+}
+
+impl From<memory::Refusal> for Refusal {
+    ghost from_gives = { λ refusal mine. mine ≡ Memory refusal };
+
+    fn from(refusal: memory::Refusal) -> Refusal {
+        Refusal::Memory(refusal)
+    }
+}
+
+impl From<sheets::Refusal> for Refusal {
+    ghost from_gives = { λ refusal mine. mine ≡ SheetTooShort };
+
+    fn from(refusal: sheets::Refusal) -> Refusal {
+        match refusal {
+            sheets::Refusal::OutputTooShort => Refusal::SheetTooShort,
+        }
+    }
 }
 
 impl Refusal {
