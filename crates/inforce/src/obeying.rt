@@ -22,21 +22,9 @@ impl<M: SettingsMemory> InForce<M> {
         ensures done { result ≡ Ok tt }
         ensures after { state_of M.meaning self.new ≡ stepped (state_of M.meaning self.old) (loaded sections) }
     {
-        load_one(&self.memory, &mut self.settings, sections, Section::Port)?;
-        load_one(
-            &self.memory,
-            &mut self.settings,
-            sections,
-            Section::Messages,
-        )?;
-        load_one(
-            &self.memory,
-            &mut self.settings,
-            sections,
-            Section::Navigation,
-        )?;
-        load_one(&self.memory, &mut self.settings, sections, Section::Pulse)?;
-        load_one(&self.memory, &mut self.settings, sections, Section::Group)?;
+        for section in Section::ALL {
+            load_one(&self.memory, &mut self.settings, sections, section)?;
+        }
         Ok(())
     }
 
@@ -54,41 +42,9 @@ impl<M: SettingsMemory> InForce<M> {
         ensures done { result ≡ Ok tt }
         ensures after { state_of M.meaning self.new ≡ stepped (state_of M.meaning self.old) (writing_event writing sections) }
     {
-        write_one(
-            &mut self.memory,
-            &self.settings,
-            sections,
-            Section::Port,
-            writing,
-        )?;
-        write_one(
-            &mut self.memory,
-            &self.settings,
-            sections,
-            Section::Messages,
-            writing,
-        )?;
-        write_one(
-            &mut self.memory,
-            &self.settings,
-            sections,
-            Section::Navigation,
-            writing,
-        )?;
-        write_one(
-            &mut self.memory,
-            &self.settings,
-            sections,
-            Section::Pulse,
-            writing,
-        )?;
-        write_one(
-            &mut self.memory,
-            &self.settings,
-            sections,
-            Section::Group,
-            writing,
-        )?;
+        for section in Section::ALL {
+            write_one(&mut self.memory, &self.settings, sections, section, writing)?;
+        }
         Ok(())
     }
 }

@@ -24,6 +24,7 @@ impl<M> InForce<M> {
 }
 
 // What is done to the string of a section.
+// An enum and no closure: the rule names the event by it, and a closure's clause would have to say the event again.
 #[derive(Clone, Copy, PartialEq, Eq, Debug)]
 pub enum Writing {
     Keep,

@@ -1,5 +1,6 @@
 // One section of the settings at a time, where it is among those that a command names.
 ghost use Rattle.std.specs.Prelude.{◌≡◌, ◌*◌, ◌≤◌, if◌then◌else◌, Ok};
+ghost use Rattle.std.specs.List.{count_by};
 ghost use Rattle.settings.specs.declared.names.Section.{Section};
 ghost use Rattle.settings.specs.declared.names.Message.{Message};
 ghost use Rattle.commands.specs.Settings.{rate};
@@ -15,15 +16,20 @@ use keeping::{keep_section, load_section};
 use memory::{Refusal, SettingsMemory};
 use settings::{Section, Settings};
 
+// How many of some sections a command names.
+fn how_many_of(some: &[Section], sections: Sections) -> usize
+    ensures { result ≡ count_by (names_section sections) some.now }
+{
+    some.iter()
+        .filter(|section| sections.has(**section))
+        .count()
+}
+
 // How many sections a command names.
 pub fn how_many(sections: Sections) -> usize
     ensures { result ≡ how_many sections }
 {
-    usize::from(sections.port)
-        + usize::from(sections.messages)
-        + usize::from(sections.navigation)
-        + usize::from(sections.pulse)
-        + usize::from(sections.group)
+    how_many_of(&Section::ALL, sections)
 }
 
 // Brings a section into force, as it is kept or from the factory.
