@@ -60,6 +60,7 @@ pub(crate) fn up_to_five_digits(rest: &[u8]) -> Option<u32>
 }
 
 // The digit at the start of a field, if one stands there, and what stands behind it.
+#[tactic(auto, using(crate::proofs::DigitFields::no_digit))]
 fn split_digit(field: &[u8]) -> (Option<u8>, &[u8])
     ensures fields { digit_fields (0x2c ∷ field.now) ≡ option_map (λ more. result.0 ∷ more) (digit_fields result.1.now) }
     ensures behind { length result.1.now ≤ length field.now }

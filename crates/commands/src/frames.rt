@@ -44,7 +44,7 @@ fn restart(payload: &[u8]) -> Option<Command>
     }
 }
 
-// The pulse, or a query.
+// The pulse, or a query; it and the group setting stay two functions, since one would take the query, the reader and the setting's case.
 fn time_pulse(payload: &[u8]) -> Option<Command>
     ensures { asked result ≡ time_pulse payload.now }
 {

@@ -18,7 +18,7 @@ fn save_all(rest: &[u8]) -> Option<Command>
     Some(Command::Save(Sections::all()))
 }
 
-// A baud code.
+// A baud code; it and the systems stay two functions, since all that they share is the call of one_digit.
 fn set_baud(rest: &[u8]) -> Option<Command>
     ensures { asked result ≡ with_field one_digit set_baud (only_field rest.now) }
 {

@@ -63,11 +63,8 @@ impl Messages {
         ensures counts { counts_in self.new.entries ≡ counts_fixed (rates_in self.old.entries) (counts_in self.old.entries) (place message) }
         ensures due { result ≡ is_due (slice_index (rates_in self.old.entries) (place message)) (slice_index (counts_in self.old.entries) (place message)) }
     {
-        let place = message.place();
-        let mut entry = self.entries[place];
-        let due = entry.advance();
-        self.entries[place] = entry;
-        due
+        let Messages { entries } = self;
+        entries[message.place()].advance()
     }
 }
 

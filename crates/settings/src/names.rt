@@ -64,7 +64,7 @@ impl TryFrom<u8> for Section {
 }
 
 impl Message {
-    // The place of the message's entry in the table.
+    // The place of the message's entry in the table; a From for usize would be no plainer: it would not say which place is meant.
     pub fn place(self) -> usize
         ensures { result ≡ place self }
     {

@@ -10,7 +10,7 @@ ghost use Rattle.settings.specs.declared.names.Section.TheVariants.{Port, Messag
 
 use crate::values::{Baud, Group, Interval, Navigation, Pulse, Systems};
 
-// Baud, Interval and Systems stay three: one type with its bounds as const parameters would name neither the setting nor its unit.
+// Baud, Interval and Systems stay three, with a `new` like that of NonZero: one type with const bounds would name neither the setting nor its unit.
 impl Baud {
     pub fn new(code: u8) -> Option<Baud>
         ensures { option_map (λ b. b.code) result ≡ (if baud_in_range code then Some code else None) }
@@ -44,7 +44,7 @@ impl Systems {
 }
 
 impl Pulse {
-    // The sixteen bytes of the setting.
+    // The sixteen bytes of the setting; a From for an array would be no plainer: it would not say that they are the kept string.
     pub fn string(&self) -> [u8; 16]
         ensures { result ≡ pulse_string (pulse_values self.now) }
     {
@@ -146,7 +146,6 @@ pub(crate) fn read_navigation(string: &[u8]) -> Option<Navigation>
 }
 
 // The five rates that the messages' string names.
-#[tactic(auto, using(crate::proofs::Lists::five_is))]
 pub(crate) fn read_messages(string: &[u8]) -> Option<[u8; 5]>
     ensures { result ≡ (if is_kept Messages string.now then Some (five_of string.now) else None) }
 {
