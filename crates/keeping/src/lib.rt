@@ -9,7 +9,7 @@ ghost use Rattle.settings.specs.Strings.{kept_string};
 ghost use Rattle.settings.specs.Values.{values, counts};
 ghost use Rattle.keeping.specs.Loaded.{loaded};
 
-use memory::{Refusal, SettingsMemory};
+use memory::{LONGEST, Refusal, SettingsMemory};
 use settings::{Section, Settings};
 
 // Keeps a section of the settings in force.
@@ -21,10 +21,9 @@ pub fn keep_section<M: SettingsMemory>(
     ensures answer { result ≡ keep_answer (M.meaning memory.old) (number section) (kept_string (values settings.now) section) }
     ensures after { M.meaning memory.new ≡ keep_after (M.meaning memory.old) (number section) (kept_string (values settings.now) section) }
 {
-    let mut buffer = [0; 56];
+    let mut buffer = [0; LONGEST];
     let n = settings.kept_string(section, &mut buffer);
-    memory.keep(section.number(), &buffer[0..n])?;
-    Ok(())
+    memory.keep(section.number(), &buffer[..n])
 }
 
 // Brings a section into force as the memory keeps it, or from the factory where it keeps no value.
@@ -37,7 +36,7 @@ pub fn load_section<M: SettingsMemory>(
     ensures values { values settings.new ≡ loaded (values settings.old) section ((M.meaning memory.now).string (number section)) }
     ensures counts { counts settings.new ≡ counts_loaded (counts settings.old) section }
 {
-    let mut buffer = [0; 56];
+    let mut buffer = [0; LONGEST];
     // Tried with and_then: its closure writes to the settings, and the proof did not close.
     let taken = match memory::kept_string(memory, section.number(), &mut buffer)? {
         Some(string) => settings.take_string(section, string),

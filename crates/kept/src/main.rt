@@ -1,10 +1,12 @@
 // Prints what a dumped image of a settings memory holds, section by section.
 #![tactic(auto)]
 
+ghost use Rattle.std.specs.Prelude.{◌≡◌, ◌≢◌, length, MatchResult};
+
 mod asked;
 mod problem;
 
-use asked::{Make, make_named};
+use asked::Make;
 use battery::Battery;
 use journal::Journal;
 use listing::listing;
@@ -22,17 +24,19 @@ Prints what each section of a dumped settings memory holds, the writes left and
 the price of a write. The image is read from FILE, or from standard input.
 A battery image has 320 bytes; a journal has any number.";
 
+// The image of a battery memory, where the bytes are as many as it has.
+fn battery_image(bytes: &[u8]) -> Result<[u8; 320], Problem>
+    ensures { MatchResult result (λ image. image ≡ bytes.now) (λ problem. (problem ≡ Problem.BatterySize (length bytes.now)) × (length bytes.now ≢ 320)) }
+{
+    bytes
+        .try_into()
+        .map_err(|_| Problem::BatterySize(bytes.len()))
+}
+
 // The lines for an image of a make.
 fn shown(heap: Global, make: Make, bytes: &mut [u8]) -> Result<String, Problem> {
     match make {
-        Make::Battery => {
-            if bytes.len() != 320 {
-                return Err(Problem::BatterySize(bytes.len()));
-            }
-            let mut image = [0; 320];
-            image.copy_from_slice(bytes);
-            Ok(listing(heap, &Battery::new(image))?)
-        }
+        Make::Battery => Ok(listing(heap, &Battery::new(battery_image(bytes)?))?),
         Make::Journal => Ok(listing(heap, &Journal::new(bytes))?),
     }
 }
@@ -40,16 +44,12 @@ fn shown(heap: Global, make: Make, bytes: &mut [u8]) -> Result<String, Problem> 
 fn run(rt: &HostRuntime) -> Result<(), Problem> {
     let mut args = env::args(rt)?;
     let _program = args.next();
-    let Some(word) = args.next() else {
-        return Err(Problem::Usage);
-    };
+    let word = args.next().ok_or(Problem::Usage)?;
     if word.as_str() == "--help" {
         rt.println(HELP)?;
         return Ok(());
     }
-    let Some(make) = make_named(word.as_str()) else {
-        return Err(Problem::Usage);
-    };
+    let make: Make = word.as_str().parse()?;
     let file = args.next();
     if args.next().is_some() {
         return Err(Problem::Usage);

@@ -8,8 +8,8 @@ ghost use Rattle.settings.specs.Names.{place};
 ghost use Rattle.settings.specs.Values.{values, counts, factory};
 ghost use Rattle.settings.specs.Strings.{is_kept, read_back};
 
-use memory::{Refusal, SettingsMemory};
-use settings::{Entry, Message, Section, Settings};
+use memory::{LONGEST, Refusal, SettingsMemory};
+use settings::{Entry, Message, Pulse, Section, Settings};
 use std::alloc::{AllocError, Global};
 
 // Why there is no listing.
@@ -81,14 +81,16 @@ fn messages_line(heap: Global, settings: &Settings) -> Result<String, AllocError
 }
 
 fn pulse_line(heap: Global, settings: &Settings) -> Result<String, AllocError> {
-    let p = settings.pulse;
-    let interval = p.interval;
-    let width = p.width;
-    let enable = p.enable;
-    let polarity = p.polarity;
-    let reference = p.reference;
-    let source = p.source;
-    let delay = hex(heap, &p.delay)?;
+    let Pulse {
+        interval,
+        width,
+        enable,
+        polarity,
+        reference,
+        source,
+        delay,
+    } = settings.pulse;
+    let delay = hex(heap, &delay)?;
     format!(in heap;
         "interval {interval} us, width {width} us, enable {enable}, polarity {polarity}, reference {reference}, source {source}, delay{delay}"
     )
@@ -134,17 +136,15 @@ fn held(heap: Global, section: Section, string: Option<&[u8]>) -> Result<String,
 pub fn listing<M: SettingsMemory>(heap: Global, memory: &M) -> Result<String, ListingError> {
     let mut text = String::new(heap);
     for section in Section::ALL {
-        let mut buffer = [0; 56];
+        let mut buffer = [0; LONGEST];
         let string = memory::kept_string(memory, section.number(), &mut buffer)?;
         let what = held(heap, section, string)?;
         let number = section.number();
         let name = word(section);
-        let line = format!(in heap; "{number} {name}: {what}\n")?;
-        text.push_str(line.as_str())?;
+        writeln!(text, "{number} {name}: {what}")?;
     }
     let left = memory.left();
     let price = memory.price();
-    let line = format!(in heap; "writes left {left}, price {price}\n")?;
-    text.push_str(line.as_str())?;
+    writeln!(text, "writes left {left}, price {price}")?;
     Ok(text)
 }

@@ -17,16 +17,14 @@ use settings::Section;
 pub fn keep_in(image: &mut [u8], section: u8, bytes: &[u8]) -> Result<(), Refusal>
     ensures { Keeps image.old image.new section bytes.now result }
 {
-    let mut journal = Journal::new(image);
-    journal.keep(section, bytes)
+    Journal::new(image).keep(section, bytes)
 }
 
 // Erases a section of a journal that is made and ended here.
 pub fn erase_in(image: &mut [u8], section: u8) -> Result<(), Refusal>
     ensures { Erases image.old image.new section result }
 {
-    let mut journal = Journal::new(image);
-    journal.erase(section)
+    Journal::new(image).erase(section)
 }
 
 // Offers a string to a battery memory and to a journal.
@@ -74,6 +72,7 @@ mod tests {
     use keeping::{keep_section, load_section};
     use settings::{Interval, Message, Setting, Settings};
     use std::alloc::{AllocError, Global};
+    use std::iter::repeat_n;
     use std::process::Abort;
     use std::test::Fail;
 
@@ -120,14 +119,7 @@ mod tests {
         assert_eq!(rt; battery.keep(3, &[50, 0, 3]), Ok(()));
         let image = battery.image();
         assert_eq!(rt; image[127], 9);
-        assert_eq!(rt;
-            [image[128], image[129], image[130], image[131]],
-            [1, 3, 9, 9]
-        );
-        assert_eq!(rt;
-            [image[132], image[133], image[134], image[135]],
-            [50, 0, 3, 9]
-        );
+        assert_eq!(rt; &image[128..136], [1, 3, 9, 9, 50, 0, 3, 9].as_slice());
         let mut out = [7u8; 56];
         assert_eq!(rt; battery.read(3, &mut out), Ok(Some(3)));
         assert_eq!(rt; [out[0], out[2], out[3]], [50, 3, 7]);
@@ -180,31 +172,19 @@ mod tests {
         assert_eq!(rt; keep_in(&mut image, 3, &[50, 0]), Ok(()));
         assert_eq!(rt; erase_in(&mut image, 4), Ok(()));
         assert_eq!(rt; keep_in(&mut image, 3, &[1]), Err(Refusal::NoWritesLeft));
-        assert_eq!(rt;
-            [
-                image[0], image[1], image[2], image[3], image[4], image[5], image[6],
-            ],
-            [1, 3, 2, 0, 50, 0, 255]
-        );
-        assert_eq!(rt;
-            [image[64], image[65], image[66], image[67], image[68]],
-            [0, 4, 0, 0, 255]
-        );
+        assert_eq!(rt; &image[..7], [1, 3, 2, 0, 50, 0, 255].as_slice());
+        assert_eq!(rt; &image[64..69], [0, 4, 0, 0, 255].as_slice());
         assert_eq!(rt; [image[128], image[129]], [255, 255]);
     }
 
     // A journal of slots with these first four bytes, each filled with its place from 1 on, and a tail behind.
     fn slots(heap: Global, heads: &[[u8; 4]], tail: usize) -> Result<Vec<u8>, AllocError> {
         let mut image = Vec::new(heap);
-        let mut place = 0u8;
-        for head in heads {
-            place = place.wrapping_add(1);
+        for (place, head) in (1..=u8::MAX).zip(heads) {
             image.extend_from_slice(head)?;
             image.extend_from_slice(&[place; 60])?;
         }
-        for _ in 0..tail {
-            image.push(1)?;
-        }
+        image.extend(repeat_n(1, tail))?;
         Ok(image)
     }
 
