@@ -1,4 +1,4 @@
-use Rattle.std.proofs.Common.{◌≡◌, true, cond, set, is_ok, sym, ap, ◌∙◌, arith, rules}
+use Rattle.std.proofs.Common.{◌≡◌, true, set, sym, ap, ◌∙◌, arith, rules}
 use Rattle.std.proofs.lemmas.Bool.Decides.{nat_tests}
 use Rattle.memory.specs.Memory.{known}
 use Rattle.memory.proofs.Done.{erase_done}
@@ -6,17 +6,11 @@ use Rattle.battery.specs.Places.{start, battery_meaning}
 use Rattle.battery.proofs.Places.{erased}
 use Rattle.battery.proofs.BatterySettingsMemory.erase.Goals as goal
 
-pub returns : goal.returns
-returns c =
+pub returns-clause-after : goal.returns-clause-after
+returns-clause-after c =
     let xs = c.args.self.now.image in
     let s = c.args.section in
     let k : known s ≡ true = grind (arith, nat_tests) in
     let a : c.in_ok-at.at ≡ start s = grind (arith, nat_tests) in
-    let d = erase_done (battery_meaning xs) s k (omega arith) in
     let written : c.clear.new.image ≡ set xs (start s) 0 = c.clear.ensures ∙ ap (λ i. set xs i 0) a in
-    record {
-      answer = sym d.0;
-      after = ap battery_meaning written ∙ erased xs s k (search rules) ∙ sym d.1;
-      image = written ∙ sym (ap (λ r. cond (is_ok r) (set xs (start s) 0) xs) d.0);
-      accepts = sym k;
-    }
+    ap battery_meaning written ∙ erased xs s k (search rules) ∙ sym (erase_done (battery_meaning xs) s k (omega arith)).1

@@ -1,5 +1,5 @@
 use Rattle.journal.proofs.Search.{said}
 use Rattle.journal.proofs.Journal.slot_of.Goals as goal
 
-pub returns : goal.returns
-returns c = record { found = c.latest_slot.ensures; said = said c.args.self.now.image.now c.args.section }
+pub returns-clause-said : goal.returns-clause-said
+returns-clause-said c = said c.args.self.now.image.now c.args.section
