@@ -12,6 +12,7 @@ use journal::Journal;
 use listing::listing;
 use memory::SettingsMemory;
 use problem::Problem;
+use programs::ended;
 use std::alloc::Global;
 use std::io::Read;
 use std::process::ExitCode;
@@ -67,13 +68,6 @@ fn run(rt: &HostRuntime) -> Result<(), Problem> {
     Ok(())
 }
 
-// An error is one line on standard error, and status 1.
 fn main(rt: HostRuntime) -> ExitCode {
-    match run(&rt) {
-        Ok(()) => ExitCode::SUCCESS,
-        Err(problem) => {
-            let _ = eprintln!(rt; "kept: {problem}");
-            ExitCode::FAILURE
-        }
-    }
+    ended(&rt, "kept", run(&rt))
 }

@@ -9,8 +9,10 @@ ghost use Rattle.settings.specs.Values.{values, counts, factory};
 ghost use Rattle.settings.specs.Strings.{is_kept, read_back};
 
 use memory::{LONGEST, Refusal, SettingsMemory};
+use prints::Hex;
 use settings::{Entry, Message, Pulse, Section, Settings};
 use std::alloc::{AllocError, Global};
+use std::fmt;
 
 // Why there is no listing.
 #[derive(Debug, Drop)]
@@ -54,16 +56,6 @@ fn word(section: Section) -> &'static str
     }
 }
 
-// Bytes as pairs of hexadecimal digits.
-fn hex(heap: Global, bytes: &[u8]) -> Result<String, AllocError> {
-    let mut text = String::new(heap);
-    for byte in bytes {
-        let pair = format!(in heap; " {byte:02X}")?;
-        text.push_str(pair.as_str())?;
-    }
-    Ok(text)
-}
-
 // The rate of a message.
 fn rate(settings: &Settings, message: Message) -> u8
     ensures { (d : Entry) → result ≡ (slice_index_or settings.now.messages.entries (place message) d).rate }
@@ -71,63 +63,110 @@ fn rate(settings: &Settings, message: Message) -> u8
     settings.messages.entries[message.place()].rate
 }
 
-fn messages_line(heap: Global, settings: &Settings) -> Result<String, AllocError> {
-    let gga = rate(settings, Message::Gga);
-    let gll = rate(settings, Message::Gll);
-    let rmc = rate(settings, Message::Rmc);
-    let zda = rate(settings, Message::Zda);
-    let utc = rate(settings, Message::TimeUtc);
-    format!(in heap; "rates GGA {gga}, GLL {gll}, RMC {rmc}, ZDA {zda}, NAV-TIMEUTC {utc}")
+// The rates of the five messages.
+#[derive(Clone, Copy)]
+struct Rates<'a>(&'a Settings);
+
+impl fmt::Display for Rates<'_> {
+    fn fmt<W: fmt::Write>(&self, f: &mut fmt::Formatter<W>) -> fmt::Result {
+        let gga = rate(self.0, Message::Gga);
+        let gll = rate(self.0, Message::Gll);
+        let rmc = rate(self.0, Message::Rmc);
+        let zda = rate(self.0, Message::Zda);
+        let utc = rate(self.0, Message::TimeUtc);
+        write!(
+            f,
+            "rates GGA {gga}, GLL {gll}, RMC {rmc}, ZDA {zda}, NAV-TIMEUTC {utc}"
+        )
+    }
 }
 
-fn pulse_line(heap: Global, settings: &Settings) -> Result<String, AllocError> {
-    let Pulse {
-        interval,
-        width,
-        enable,
-        polarity,
-        reference,
-        source,
-        delay,
-    } = settings.pulse;
-    let delay = hex(heap, &delay)?;
-    format!(in heap;
-        "interval {interval} us, width {width} us, enable {enable}, polarity {polarity}, reference {reference}, source {source}, delay{delay}"
-    )
+// The fields of the pulse.
+#[derive(Clone, Copy)]
+struct Fields(Pulse);
+
+impl fmt::Display for Fields {
+    fn fmt<W: fmt::Write>(&self, f: &mut fmt::Formatter<W>) -> fmt::Result {
+        let Pulse {
+            interval,
+            width,
+            enable,
+            polarity,
+            reference,
+            source,
+            delay,
+        } = self.0;
+        write!(
+            f,
+            "interval {interval} us, width {width} us, enable {enable}, polarity {polarity}"
+        )?;
+        let delay = Hex(&delay);
+        write!(f, ", reference {reference}, source {source}, delay{delay}")
+    }
 }
 
 // A section in the terms of its settings.
-fn terms(heap: Global, section: Section, settings: &Settings) -> Result<String, AllocError> {
-    match section {
-        Section::Port => {
-            let code = settings.baud.code;
-            format!(in heap; "baud code {code}")
-        }
-        Section::Messages => messages_line(heap, settings),
-        Section::Navigation => {
-            let interval = settings.interval.milliseconds;
-            let systems = settings.systems.mask;
-            format!(in heap; "interval {interval} ms, systems {systems}")
-        }
-        Section::Pulse => pulse_line(heap, settings),
-        Section::Group => {
-            let bytes = hex(heap, &settings.group.bytes)?;
-            format!(in heap; "bytes{bytes}")
+#[derive(Clone, Copy)]
+struct Terms<'a> {
+    section: Section,
+    settings: &'a Settings,
+}
+
+impl fmt::Display for Terms<'_> {
+    fn fmt<W: fmt::Write>(&self, f: &mut fmt::Formatter<W>) -> fmt::Result {
+        let settings = self.settings;
+        match self.section {
+            Section::Port => {
+                let code = settings.baud.code;
+                write!(f, "baud code {code}")
+            }
+            Section::Messages => {
+                let rates = Rates(settings);
+                write!(f, "{rates}")
+            }
+            Section::Navigation => {
+                let interval = settings.interval.milliseconds;
+                let systems = settings.systems.mask;
+                write!(f, "interval {interval} ms, systems {systems}")
+            }
+            Section::Pulse => {
+                let fields = Fields(settings.pulse);
+                write!(f, "{fields}")
+            }
+            Section::Group => {
+                let bytes = Hex(&settings.group.bytes);
+                write!(f, "bytes{bytes}")
+            }
         }
     }
 }
 
 // What a section holds.
-fn held(heap: Global, section: Section, string: Option<&[u8]>) -> Result<String, AllocError> {
-    let Some(bytes) = string else {
-        return String::from_str(heap, "no string");
-    };
-    match named(section, bytes) {
-        Some(settings) => terms(heap, section, &settings),
-        None => {
-            let size = bytes.len();
-            let digits = hex(heap, bytes)?;
-            format!(in heap; "no kept value, {size} bytes:{digits}")
+#[derive(Clone, Copy)]
+struct Held<'a> {
+    section: Section,
+    string: Option<&'a [u8]>,
+}
+
+impl fmt::Display for Held<'_> {
+    fn fmt<W: fmt::Write>(&self, f: &mut fmt::Formatter<W>) -> fmt::Result {
+        let section = self.section;
+        let Some(bytes) = self.string else {
+            return f.write_str("no string");
+        };
+        match named(section, bytes) {
+            Some(settings) => {
+                let terms = Terms {
+                    section,
+                    settings: &settings,
+                };
+                write!(f, "{terms}")
+            }
+            None => {
+                let size = bytes.len();
+                let digits = Hex(bytes);
+                write!(f, "no kept value, {size} bytes:{digits}")
+            }
         }
     }
 }
@@ -138,7 +177,7 @@ pub fn listing<M: SettingsMemory>(heap: Global, memory: &M) -> Result<String, Li
     for section in Section::ALL {
         let mut buffer = [0; LONGEST];
         let string = memory::kept_string(memory, section.number(), &mut buffer)?;
-        let what = held(heap, section, string)?;
+        let what = Held { section, string };
         let number = section.number();
         let name = word(section);
         writeln!(text, "{number} {name}: {what}")?;
