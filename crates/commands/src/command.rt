@@ -23,7 +23,7 @@ pub enum Start {
     Factory,
 }
 
-// The sections that a command names.
+// The sections that a command names, a flag for each: a set of bits would have the gaps of the section numbers, and no names.
 #[derive(Clone, Copy)]
 pub struct Sections {
     pub port: bool,

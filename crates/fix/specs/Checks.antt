@@ -1,5 +1,5 @@
 -- What the check answers.
-use Rattle.std.specs.Prelude.{◌≡◌, ℕ, Bool, true, false, cond, ◌&&◌, Ok, Err, Result, MatchResult, nat_le}
+use Rattle.std.specs.Prelude.{◌≡◌, ℕ, Bool, true, false, cond, ◌&&◌, List, Ok, Err, codes, Result, MatchResult, nat_le}
 use Rattle.std.specs.Option.{option_map}
 use Rattle.fix.specs.declared.Date.{Date}
 use Rattle.fix.specs.declared.Time.{Time}
@@ -38,6 +38,11 @@ fix_of f = record {
 abbrev pub number_of : Refusal → ℕ
 number_of DateOrTime = 4
 number_of OutOfRange = 5
+
+-- the words for a refusal
+abbrev pub words : Refusal → List ℕ
+words DateOrTime = codes "date or time"
+words OutOfRange = codes "a number out of range"
 
 -- r is a lawful x with its own numbers, or the refusal of an x that is not lawful
 abbrev pub Checks : {A B : Type 0} → (A → Bool) → (B → A) → Refusal → A → Result B Refusal → Type 0

@@ -1,16 +1,17 @@
 // A fix as it is handed over, and the check that makes a fix in range of it.
 #![tactic(auto)]
 
-ghost use Rattle.std.specs.Prelude.{◌≡◌, nat_le};
+ghost use Rattle.std.specs.Prelude.{◌≡◌, Some, nat_le};
 ghost use Rattle.std.specs.Option.{option_map};
 ghost use Rattle.fix.specs.Calendar.{leap, month_length};
 ghost use Rattle.fix.specs.Ranges.{lawful_date, lawful_time, lawful_position, lawful_place};
 ghost use Rattle.fix.specs.declared.Refusal.TheVariants.{DateOrTime, OutOfRange};
-ghost use Rattle.fix.specs.Checks.{Checks, date_of, time_of, position_of, number_of, answer_of, check_answer};
+ghost use Rattle.fix.specs.Checks.{Checks, date_of, time_of, position_of, number_of, words, answer_of, check_answer};
 
 mod checked;
 
 pub use checked::{CheckedDate, CheckedFix, CheckedPosition, CheckedTime};
+use std::fmt;
 
 // A date as handed over, which may be none of the calendar.
 #[derive(Clone, Copy)]
@@ -66,6 +67,17 @@ impl Refusal {
         ensures { result ≡ number_of self }
     {
         self as u8
+    }
+}
+
+impl fmt::Display for Refusal {
+    ghost output = { λ refusal. Some (words refusal) };
+
+    fn fmt<W: fmt::Write>(&self, f: &mut fmt::Formatter<W>) -> fmt::Result {
+        f.write_str(match self {
+            Refusal::DateOrTime => "date or time",
+            Refusal::OutOfRange => "a number out of range",
+        })
     }
 }
 

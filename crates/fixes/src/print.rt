@@ -76,11 +76,7 @@ fn print_time_utc(rt: &HostRuntime, fix: &CheckedFix, systems: Systems) -> io::R
 
 pub fn print_refusal(rt: &HostRuntime, refusal: Refusal) -> io::Result<()> {
     let number = refusal.number();
-    let meaning = match refusal {
-        Refusal::DateOrTime => "date or time",
-        Refusal::OutOfRange => "a number out of range",
-    };
-    println!(rt; "  refused {number}: {meaning}")
+    println!(rt; "  refused {number}: {refusal}")
 }
 
 pub fn print_messages(rt: &HostRuntime, fix: &CheckedFix, systems: Systems) -> io::Result<()> {

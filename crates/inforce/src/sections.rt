@@ -33,6 +33,7 @@ pub fn how_many(sections: Sections) -> usize
 }
 
 // Brings a section into force, as it is kept or from the factory.
+// Memory and settings come apart, since one is read while the other changes.
 pub fn load_one<M: SettingsMemory>(
     memory: &M,
     settings: &mut Settings,

@@ -93,6 +93,7 @@ impl Line {
         self.text.padded(places, rest);
     }
 
+    // Hundredths and thousandths stay two: each is one call of `pointed`, and its name says the unit.
     pub fn hundredths(&mut self, n: u32)
         requires { (length (written self.old) + 9 ≤ 76) × (n ≤ 9999999) }
         ensures text { written self.new ≡ written self.old ++ (44 ∷ pointed 2 n) }

@@ -12,6 +12,7 @@ use settings::Systems;
 use wire::Refusal;
 
 // A sentence that tells a fix.
+// Fix and systems come apart: one arrives, the other is in force, and a struct of both would be made and taken apart at each call.
 pub trait Sentence {
     // Its body, by the systems in use and the fix.
     ghost body: { ℕ → CheckedFix → List ℕ };

@@ -22,6 +22,7 @@ pub fn message_name(class: u8, id: u8) -> Option<&'static str>
     }
 }
 
+// A function for each class: one match of all pairs of class and id would be as long, and no plainer.
 fn nav_name(id: u8) -> Option<&'static str>
     ensures { option_map (λ x. x.now) result ≡ nav_name id }
 {

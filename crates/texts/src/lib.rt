@@ -60,6 +60,7 @@ impl<const N: usize> Text<N> {
     }
 
     // A number in so many digits.
+    // Not by `write!`: a format answers a Result that cannot fail here, and writes more digits where a number has more.
     #[tactic(auto, using(crate::proofs::Cuts::padded_none))]
     pub fn padded(&mut self, width: usize, n: u32)
         ensures cut { self.new ≡ take N (self.old ++ padded width n) }

@@ -17,12 +17,12 @@ refusal n = cond (n == 11) PayloadLength (cond (n == 12) Body OutputTooShort)
 
 -- a form at the output's start and its length, every other byte as before; refused where the output is too short, every byte as before
 abbrev pub fitted : List ℕ → List ℕ → Result ℕ Refusal × List ℕ
-fitted form out = cond (nat_le (length form) (length out)) (Ok (length form), form ++ drop (length form) out) (Err (refusal 13), out)
+fitted form out = cond (nat_le (length form) (length out)) (Ok (length form), form ++ drop (length form) out) (Err OutputTooShort, out)
 
 -- the frame writer: a length that is not lawful is refused first
 abbrev pub frame_written : ℕ → ℕ → List ℕ → List ℕ → Result ℕ Refusal × List ℕ
-frame_written class id payload out = cond (lawful_length (length payload)) (fitted (frame class id payload) out) (Err (refusal 11), out)
+frame_written class id payload out = cond (lawful_length (length payload)) (fitted (frame class id payload) out) (Err PayloadLength, out)
 
 -- the sentence writer: a body that is not lawful is refused first
 abbrev pub sentence_written : List ℕ → List ℕ → Result ℕ Refusal × List ℕ
-sentence_written body out = cond (lawful_body body) (fitted (sentence body) out) (Err (refusal 12), out)
+sentence_written body out = cond (lawful_body body) (fitted (sentence body) out) (Err Body, out)

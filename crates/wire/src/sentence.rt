@@ -10,7 +10,7 @@ use crate::refusal::Refusal;
 fn is_body(b: u8) -> bool
     ensures { result ≡ is_body b }
 {
-    b >= b' ' && b <= b'~' && b != b'$' && b != b'*'
+    matches!(b, b' '..=b'~') && !matches!(b, b'$' | b'*')
 }
 
 // How many body bytes stand at the front.

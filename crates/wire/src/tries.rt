@@ -45,6 +45,7 @@ fn payload_of(bytes: &[u8], len: usize) -> &[u8]
 }
 
 // A try at a frame, of which the lead byte is there.
+// Each try says what becomes of the place: a struct of bytes and place would have to say besides that the bytes stay.
 fn try_frame<'b>(bytes: &'b [u8], place: &mut Place) -> Result<Item<'b>, Miss>
     requires { place.old.at + length bytes.now < 2 ^ 64 }
     ensures verdict { seen result ≡ frame_try bytes.now }
