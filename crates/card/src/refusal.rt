@@ -34,6 +34,7 @@ impl Refusal {
     pub fn number(self) -> u8
         ensures { result ≡ number_of self }
     {
+        // By cases and not by discriminant: one case holds a memory's refusal, which has the number.
         match self {
             Refusal::SendTooLong => 1,
             Refusal::ReplyTooShort => 2,

@@ -1,4 +1,5 @@
 // What has been checked: values of these types lie in their ranges.
+// They repeat the fields of `Date`, `Time`, `Position` and `Fix`: a type has its ranges or has not, and one for both would ask of each reader which.
 ghost use Rattle.std.specs.Prelude.{◌^◌, ◌<◌, ◌≤◌, pos, negsuc, ◌≤ℤ◌};
 ghost use Rattle.fix.specs.Calendar.{month_length};
 

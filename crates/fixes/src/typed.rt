@@ -88,6 +88,7 @@ where
     text.parse().map_err(|_| Fault::Wrong(word))
 }
 
+// A date; no `FromStr`, since the type is another crate's, as those of the next two are.
 fn date(text: &str) -> Result<Date, Fault> {
     let wrong = Fault::Wrong(Word::Date);
     let (year, rest) = text.split_once('-').ok_or(wrong)?;

@@ -27,6 +27,7 @@ pub fn keep_section<M: SettingsMemory>(
 }
 
 // Brings a section into force as the memory keeps it, or from the factory where it keeps no value.
+// The memory's `Result` goes on to the card's calls, by a rule of the project, though none of its refusals can come.
 pub fn load_section<M: SettingsMemory>(
     memory: &M,
     settings: &mut Settings,

@@ -27,23 +27,6 @@ pub fn erase_in(image: &mut [u8], section: u8) -> Result<(), Refusal>
     Journal::new(image).erase(section)
 }
 
-// Offers a string to a battery memory and to a journal.
-fn offer(
-    battery: &mut Battery,
-    image: &mut [u8],
-    section: u8,
-    bytes: &[u8],
-) -> (Result<(), Refusal>, Result<(), Refusal>)
-    ensures answer { result.0 ≡ keep_answer (battery_meaning battery.old.image) section bytes.now }
-    ensures battery { battery.new.image ≡ battery_after battery.old.image section bytes.now }
-    ensures journal { Keeps image.old image.new section bytes.now result.1 }
-    ensures after { battery_meaning battery.new.image ≡ keep_after (battery_meaning battery.old.image) section bytes.now }
-{
-    let by_battery = battery.keep(section, bytes);
-    let by_journal = keep_in(image, section, bytes);
-    (by_battery, by_journal)
-}
-
 // Offers a string to both makes: where the journal has no writes left, the battery keeps it and the journal refuses it.
 pub fn keep_both(
     battery: &mut Battery,
@@ -56,7 +39,9 @@ pub fn keep_both(
     ensures journal { Keeps image.old image.new section bytes.now result.1 }
     ensures full { keepable section bytes.now ≡ true → writes_left image.old ≡ 0 → FullJournal battery.new.image image.old image.new section bytes.now result.0 result.1 }
 {
-    offer(battery, image, section, bytes)
+    let by_battery = battery.keep(section, bytes);
+    let by_journal = keep_in(image, section, bytes);
+    (by_battery, by_journal)
 }
 
 // Whether the settings have a section of a number: exactly the numbers that a memory knows.

@@ -77,7 +77,7 @@ pub trait SettingsMemory {
         ensures answer { result ≡ erase_answer (meaning self.old) section }
         ensures after { meaning self.new ≡ erase_after (meaning self.old) section };
 
-    // The length of the string, which then stands at the front of `out`, or none.
+    // The length of the string, which then stands at the front of the caller's buffer `out`, or none.
     fn read(&self, section: u8, out: &mut [u8]) -> Result<Option<usize>, Refusal>
         ensures answer { result ≡ read_answer (meaning self.now) section (length out.old) }
         ensures copied { out.new ≡ read_out (meaning self.now) section out.old };

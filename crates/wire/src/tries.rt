@@ -5,7 +5,7 @@ ghost use Rattle.wire.specs.Tries.{stand, frame_try, is_digit, star_of, body_to,
 ghost use Rattle.wire.specs.Seen.{seen, spent};
 ghost use Rattle.wire.specs.declared.tries.Miss.TheVariants.{Unfinished};
 
-use crate::frame::LEAD;
+use crate::frame::{LEAD, is_lawful_length};
 use crate::item::{Frame, Item};
 use crate::place::{Attempt, Place};
 use crate::sentence::{body_run, checksum_of, hex_digit};
@@ -59,7 +59,7 @@ fn try_frame<'b>(bytes: &'b [u8], place: &mut Place) -> Result<Item<'b>, Miss>
     let high = byte(bytes, 3)?;
     let len = u16::from_le_bytes([bytes[2], high]) as usize;
     attempt.place.at += 2;
-    if len % 4 != 0 || len > 64 {
+    if !is_lawful_length(len) {
         return Err(Miss::Failed);
     }
     byte(bytes, len + 9)?;
