@@ -42,8 +42,8 @@ fn place(section: u8) -> Result<usize, Refusal>
     ensures { result ≡ refuse (not (known section)) Refusal.UnknownSection (Ok (start section)) }
 {
     match section {
-        0 | 1 => Ok(PLACE * section as usize),
-        3..=5 => Ok(PLACE * (section as usize - 1)),
+        0 | 1 => Ok(PLACE * usize::from(section)),
+        3..=5 => Ok(PLACE * (usize::from(section) - 1)),
         _ => Err(Refusal::UnknownSection),
     }
 }
@@ -69,12 +69,13 @@ fn clear(image: &mut [u8], at: usize)
 }
 
 // Copies the string of a place, if one stands there, to the start of `out`, and gives its length.
+// The place is a slice, since it lies at a reckoned byte: an array would have to be tested out of the image.
 fn copy(place: &[u8], out: &mut [u8; LONGEST]) -> Option<usize>
     requires { length place.now ≡ 64 }
     ensures size { result ≡ option_map length (string_in place.now) }
     ensures copied { out.new ≡ with_string (string_in place.now) out.old }
 {
-    let n = place[1] as usize;
+    let n = usize::from(place[1]);
     if place[0] != STRING || n > LONGEST {
         return None;
     }

@@ -25,7 +25,7 @@ fn put_frame(answer: Frame<'_>, out: &mut [u8]) -> usize
     answer.write(out).unwrap_or(0)
 }
 
-// Acknowledges a frame, by the id of ACK or of NACK.
+// Acknowledges a frame, by the id of ACK, 0x01, or of NACK, 0x00.
 fn acknowledge(id: u8, sent: Frame<'_>, out: &mut [u8]) -> usize
     requires { 66 ≤ length out.old }
     ensures size { result ≡ 14 }
@@ -86,7 +86,7 @@ pub(crate) fn answer(item: Item<'_>, outcome: Outcome, settings: &Settings, out:
     }
 }
 
-// What counts as an accepted command.
+// What counts as an accepted command: a number, since the rule counts.
 pub(crate) fn accepts(outcome: Outcome) -> usize
     ensures { result ≡ accepts outcome }
 {

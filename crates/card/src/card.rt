@@ -62,7 +62,7 @@ impl<M: SettingsMemory> Card<M> {
         Ok((tally.written, tally.accepted, tally.down))
     }
 
-    // Reads bytes; what is unfinished waits for more.
+    // Reads bytes; what is unfinished waits for more. Its three numbers are one tuple, a rule of the project.
     pub fn send(&mut self, bytes: &[u8], reply: &mut [u8]) -> Result<(usize, usize, usize), Refusal>
         ensures { (b : State) (h : History) → Keeps b h (whole_of M.meaning self.old) → Goes b (send_turn b h bytes.now (length reply.old)) (answer_of result) reply.old reply.new (whole_of M.meaning self.new) }
     {

@@ -31,6 +31,7 @@ impl From<sheets::Refusal> for Refusal {
 
 impl Refusal {
     // The number under which the refusal is known on the bench.
+    // A From for u8 would be no plainer: it would not say which number is meant.
     pub fn number(self) -> u8
         ensures { result ≡ number_of self }
     {

@@ -35,7 +35,7 @@ pub(crate) fn one_digit(rest: &[u8]) -> Option<u8>
     }
 }
 
-// The number that one to five digits name.
+// The number that one to five digits name; `parse` would take a plus sign too.
 fn number(field: &[u8]) -> Option<u32>
     ensures { result ≡ up_to_five_digits field.now }
 {
@@ -44,7 +44,7 @@ fn number(field: &[u8]) -> Option<u32>
     }
     let mut number = 0u32;
     for b in field {
-        number = number * 10 + digit(*b)? as u32;
+        number = number * 10 + u32::from(digit(*b)?);
     }
     Some(number)
 }

@@ -21,7 +21,8 @@ impl Query {
         }
     }
 
-    // The payload that tells the setting, over the start of the caller's buffer, and its length; sent back, it sets the same value.
+    // The payload that tells the setting, over the start of a buffer, and its length; sent back, it sets the same value.
+    // The buffer is the caller's, a rule of the project for what is handed out.
     pub fn payload(self, settings: &Settings, out: &mut [u8; 56]) -> usize
         ensures size { result ≡ length (told_payload self (configuration (values settings.now))) }
         ensures out { out.new ≡ told_payload self (configuration (values settings.now)) ++ drop (length (told_payload self (configuration (values settings.now)))) out.old }

@@ -18,7 +18,7 @@ fn save_all(rest: &[u8]) -> Option<Command>
     Some(Command::Save(Sections::all()))
 }
 
-// A baud code; it and the systems stay two functions, since all that they share is the call of one_digit.
+// A baud code; it and the systems stay two functions: one would take as closures all that they don't share, and be longer.
 fn set_baud(rest: &[u8]) -> Option<Command>
     ensures { asked result ≡ with_field one_digit set_baud (only_field rest.now) }
 {

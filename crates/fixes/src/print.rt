@@ -40,7 +40,7 @@ const FIELDS: [(&str, Range<usize>); 10] = [
     ("date", 29..30),
 ];
 
-// A number, low byte first.
+// A number, low byte first; of one, two or four bytes, where `from_le_bytes` takes one size.
 fn number(bytes: &[u8]) -> u64 {
     bytes.iter().rev().fold(0, |n: u64, b| {
         n.wrapping_mul(256).wrapping_add(u64::from(*b))

@@ -33,7 +33,7 @@ pub fn how_many(sections: Sections) -> usize
 }
 
 // Brings a section into force, as it is kept or from the factory.
-// Memory and settings come apart, since one is read while the other changes.
+// Memory and settings come apart: a method of both would have to say that the memory stays.
 pub fn load_one<M: SettingsMemory>(
     memory: &M,
     settings: &mut Settings,

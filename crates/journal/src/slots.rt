@@ -69,7 +69,7 @@ fn names_section(slot: &Slot, section: u8) -> bool
     ensures { result ≡ names slot.now section }
 {
     let shaped = match slot[0] {
-        KEEP => slot[2] as usize <= LONGEST,
+        KEEP => usize::from(slot[2]) <= LONGEST,
         ERASE => slot[2] == 0,
         _ => false,
     };
@@ -86,7 +86,7 @@ fn copy_content(slot: &Slot, out: &mut [u8; LONGEST]) -> Option<usize>
     if slot[0] != KEEP {
         return None;
     }
-    let n = slot[2] as usize;
+    let n = usize::from(slot[2]);
     out[..n].copy_from_slice(&slot[4..4 + n]);
     Some(n)
 }

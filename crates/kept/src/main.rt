@@ -34,7 +34,7 @@ fn battery_image(bytes: &[u8]) -> Result<[u8; 320], Problem>
         .map_err(|_| Problem::BatterySize(bytes.len()))
 }
 
-// The lines for an image of a make.
+// The lines for an image of a make; a match, since the two makes are types of their own.
 fn shown(heap: Global, make: Make, bytes: &mut [u8]) -> Result<String, Problem> {
     match make {
         Make::Battery => Ok(listing(heap, &Battery::new(battery_image(bytes)?))?),

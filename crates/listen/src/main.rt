@@ -1,9 +1,10 @@
 // Lists the frames and sentences in a capture of the line, from standard input.
 #![tactic(auto)]
 
-ghost use Rattle.std.specs.Prelude.{IfOk};
+ghost use Rattle.std.specs.Prelude.{◌≤◌, length, IfOk};
 ghost use Rattle.listen.specs.Listing.{Lists, Takes};
 
+use arrayvec::ArrayVec;
 use names::message_name;
 use prints::{Hex, Text};
 use programs::filter;
@@ -21,6 +22,9 @@ and how many bytes were stray.";
 
 // How many bytes are read at once.
 const PIECE: usize = 65536;
+
+// Room for a piece behind the most bytes that reading leaves unread.
+const ROOM: usize = 65617;
 
 // Where the unread rest of some bytes begins, and how many bytes the frames and sentences before it have.
 #[derive(Clone, Copy)]
@@ -76,10 +80,17 @@ struct Held {
 }
 
 // Lists a piece behind the unread bytes, which are then those that it leaves unread.
-fn take_in(rt: &HostRuntime, unread: &mut Vec<u8>, piece: &[u8], held: Held) -> io::Result<Held>
+// They are no part of `Held`: while a piece is listed there are more of them than are held.
+fn take_in(
+    rt: &HostRuntime,
+    unread: &mut ArrayVec<u8, ROOM>,
+    piece: &[u8],
+    held: Held,
+) -> io::Result<Held>
+    requires { (length unread.old.items ≤ 81) × (length piece.now ≤ 65536) }
     ensures { IfOk result (Takes unread.old.items piece.now unread.new.items held) }
 {
-    unread.extend_from_slice(piece)?;
+    let _ = unread.try_extend_from_slice(piece);
     let Listed { rest, good } = list(rt, unread.as_slice(), Ending::More, held.start)?;
     unread.drain(..rest);
     Ok(Held {
@@ -89,7 +100,9 @@ fn take_in(rt: &HostRuntime, unread: &mut Vec<u8>, piece: &[u8], held: Held) -> 
 }
 
 // Lists standard input to its end, as its bytes come; what is left unread stays in `unread`.
-fn take_all(rt: &HostRuntime, unread: &mut Vec<u8>) -> io::Result<Held> {
+fn take_all(rt: &HostRuntime, unread: &mut ArrayVec<u8, ROOM>) -> io::Result<Held>
+    requires { length unread.old.items ≤ 81 }
+{
     let mut held = Held { start: 0, good: 0 };
     let mut piece = [0u8; PIECE];
     let mut input = rt.stdin();
@@ -120,7 +133,7 @@ fn finish(rt: &HostRuntime, unread: &[u8], held: Held) -> io::Result<()> {
 }
 
 fn list_input(rt: &HostRuntime) -> anyhow::Result<()> {
-    let mut unread = Vec::new(rt.alloc());
+    let mut unread = ArrayVec::new();
     let held = take_all(rt, &mut unread)?;
     finish(rt, unread.as_slice(), held)?;
     Ok(())

@@ -43,7 +43,7 @@ pub fn named(section: Section, string: &[u8]) -> Option<Settings>
     Some(settings)
 }
 
-// The word for a section.
+// The word for a section; no Display, since the type is another crate's.
 fn word(section: Section) -> &'static str
     ensures { result.now ≡ section_word section }
 {

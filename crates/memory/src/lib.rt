@@ -16,6 +16,7 @@ pub enum Refusal {
 
 impl Refusal {
     // The number under which the refusal is known on the bench.
+    // A From for u8 would be no plainer: it would not say which number is meant.
     pub fn number(self) -> u8
         ensures number { result ≡ number self }
         ensures back { refusal result ≡ self }
@@ -66,6 +67,7 @@ impl<'a> TryFrom<&'a [u8]> for ShortString<'a> {
 }
 
 // A memory that keeps one string, or none, for each of the five sections.
+// It takes any number for a section, and refuses those that are none's: an enum would ask more of its callers.
 pub trait SettingsMemory {
     ghost meaning: { Self → Meaning };
 

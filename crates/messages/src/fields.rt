@@ -17,6 +17,7 @@ fn side<'a>(z: i32, plus: &'a [u8], minus: &'a [u8]) -> &'a [u8]
     if z < 0 { minus } else { plus }
 }
 
+// Each field says the room that it needs, since a line that was cut would make no good sentence.
 impl Line {
     // What is written so far.
     pub(crate) fn as_bytes(&self) -> &[u8]
@@ -26,7 +27,7 @@ impl Line {
         self.text.as_bytes()
     }
 
-    pub fn field(&mut self, text: &[u8])
+    pub(crate) fn field(&mut self, text: &[u8])
         requires { length (written self.old) + length text.now < 76 }
         ensures text { written self.new ≡ written self.old ++ (44 ∷ text.now) }
         ensures len { length (written self.new) ≡ length (written self.old) + 1 + length text.now }
@@ -35,7 +36,7 @@ impl Line {
         self.text.append(text);
     }
 
-    pub fn number(&mut self, width: usize, n: u32)
+    pub(crate) fn number(&mut self, width: usize, n: u32)
         requires { length (written self.old) + width < 76 }
         ensures text { written self.new ≡ written self.old ++ (44 ∷ padded width n) }
         ensures len { length (written self.new) ≡ length (written self.old) + 1 + width }
@@ -44,32 +45,32 @@ impl Line {
         self.text.padded(width, n);
     }
 
-    pub fn time(&mut self, t: &CheckedTime)
+    pub(crate) fn time(&mut self, t: &CheckedTime)
         requires { length (written self.old) + 11 ≤ 76 }
         ensures text { written self.new ≡ written self.old ++ (44 ∷ time_text t.now) }
         ensures len { length (written self.new) ≡ length (written self.old) + 11 }
     {
         self.text.push(b',');
-        self.text.padded(2, t.hour as u32);
-        self.text.padded(2, t.minute as u32);
-        self.text.padded(2, t.second as u32);
+        self.text.padded(2, u32::from(t.hour));
+        self.text.padded(2, u32::from(t.minute));
+        self.text.padded(2, u32::from(t.second));
         self.text.push(b'.');
-        self.text.padded(3, t.ms as u32);
+        self.text.padded(3, u32::from(t.ms));
     }
 
-    pub fn date(&mut self, d: &CheckedDate)
+    pub(crate) fn date(&mut self, d: &CheckedDate)
         requires { length (written self.old) + 7 ≤ 76 }
         ensures text { written self.new ≡ written self.old ++ (44 ∷ date_text d.now) }
         ensures len { length (written self.new) ≡ length (written self.old) + 7 }
     {
         self.text.push(b',');
-        self.text.padded(2, d.day as u32);
-        self.text.padded(2, d.month as u32);
-        self.text.padded(2, d.year as u32 % 100);
+        self.text.padded(2, u32::from(d.day));
+        self.text.padded(2, u32::from(d.month));
+        self.text.padded(2, u32::from(d.year) % 100);
     }
 
     // Degrees in so many digits, and minutes.
-    pub fn angle(&mut self, width: usize, z: i32)
+    pub(crate) fn angle(&mut self, width: usize, z: i32)
         requires { length (written self.old) + width + 8 ≤ 76 }
         ensures text { written self.new ≡ written self.old ++ (44 ∷ angle_text width z) }
         ensures len { length (written self.new) ≡ length (written self.old) + width + 8 }
@@ -94,7 +95,7 @@ impl Line {
     }
 
     // Hundredths and thousandths stay two: each is one call of `pointed`, and its name says the unit.
-    pub fn hundredths(&mut self, n: u32)
+    pub(crate) fn hundredths(&mut self, n: u32)
         requires { (length (written self.old) + 9 ≤ 76) × (n ≤ 9999999) }
         ensures text { written self.new ≡ written self.old ++ (44 ∷ pointed 2 n) }
         ensures len { length (written self.new) ≤ length (written self.old) + 9 }
@@ -103,7 +104,7 @@ impl Line {
         self.pointed(n / 100, 2, n % 100);
     }
 
-    pub fn thousandths(&mut self, n: u32)
+    pub(crate) fn thousandths(&mut self, n: u32)
         requires { (length (written self.old) + 9 ≤ 76) × (n ≤ 9999999) }
         ensures text { written self.new ≡ written self.old ++ (44 ∷ pointed 3 n) }
         ensures len { length (written self.new) ≤ length (written self.old) + 9 }
@@ -113,7 +114,7 @@ impl Line {
     }
 
     // An altitude in cm, told in metres.
-    pub fn metres(&mut self, z: i32)
+    pub(crate) fn metres(&mut self, z: i32)
         requires { (length (written self.old) + 10 ≤ 76) × ((negsuc 9999998 ≤ℤ z) × (z ≤ℤ pos 9999999)) }
         ensures text { written self.new ≡ written self.old ++ (44 ∷ metres_text z) }
         ensures len { length (written self.new) ≤ length (written self.old) + 10 }
@@ -125,7 +126,7 @@ impl Line {
     }
 
     // Latitude, N or S, longitude, E or W.
-    pub fn place(&mut self, p: &CheckedPosition)
+    pub(crate) fn place(&mut self, p: &CheckedPosition)
         requires { length (written self.old) + 25 ≤ 76 }
         ensures text { written self.new ≡ body_of (written self.old) (latitude_text p.now ∷ north_or_south p.now ∷ longitude_text p.now ∷ east_or_west p.now ∷ []) }
         ensures len { length (written self.new) ≤ length (written self.old) + 25 }
@@ -137,7 +138,7 @@ impl Line {
     }
 
     // The four fields of a place that is not known.
-    pub fn no_place(&mut self)
+    pub(crate) fn no_place(&mut self)
         requires { length (written self.old) + 4 ≤ 76 }
         ensures text { written self.new ≡ body_of (written self.old) ([] ∷ [] ∷ [] ∷ [] ∷ []) }
         ensures len { length (written self.new) ≡ length (written self.old) + 4 }

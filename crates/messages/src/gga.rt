@@ -32,14 +32,14 @@ impl Sentence for Gga {
             Some(position) => {
                 line.place(&position);
                 line.field(b"1");
-                line.number(2, fix.satellites as u32);
-                line.hundredths(position.hdop as u32);
+                line.number(2, u32::from(fix.satellites));
+                line.hundredths(u32::from(position.hdop));
                 line.metres(position.altitude);
             }
             None => {
                 line.no_place();
                 line.field(b"0");
-                line.number(2, fix.satellites as u32);
+                line.number(2, u32::from(fix.satellites));
                 line.field(b"");
                 line.field(b"");
             }

@@ -29,7 +29,7 @@ pub trait Sentence {
     ghost tells: { (systems : ℕ) (fix : CheckedFix) → Tells systems fix };
 }
 
-// Writes a sentence to the start of `out` and gives its length; an output that is too short is refused.
+// Writes a sentence to the start of the caller's `out` and gives its length; an output that is too short is refused.
 pub fn write_message<S: Sentence>(
     fix: &CheckedFix,
     systems: Systems,

@@ -20,6 +20,7 @@ fn source(systems: Systems) -> u8
     }
 }
 
+// Its 24 bytes by name: to copy its parts to their places would be no plainer, and hide which stands where.
 fn payload(fix: &CheckedFix, systems: Systems) -> [u8; 24]
     ensures { result ≡ time_utc_payload systems.mask fix.now }
 {
@@ -60,7 +61,7 @@ fn payload(fix: &CheckedFix, systems: Systems) -> [u8; 24]
     ]
 }
 
-// Writes the frame to the start of `out` and gives its length; an output that is too short is refused.
+// Writes the frame to the start of the caller's `out` and gives its length; an output that is too short is refused.
 pub fn write_time_utc(fix: &CheckedFix, systems: Systems, out: &mut [u8]) -> Result<usize, Refusal>
     ensures bytes { (result, out.new) ≡ fitted (frame 0x01 0x10 (time_utc_payload systems.mask fix.now)) out.old }
     ensures good { GoodFrame 0x01 0x10 (time_utc_payload systems.mask fix.now) }

@@ -28,9 +28,9 @@ impl Sentence for Zda {
     {
         let mut line = start(systems, b"ZDA");
         line.time(&fix.time);
-        line.number(2, fix.date.day as u32);
-        line.number(2, fix.date.month as u32);
-        line.number(4, fix.date.year as u32);
+        line.number(2, u32::from(fix.date.day));
+        line.number(2, u32::from(fix.date.month));
+        line.number(4, u32::from(fix.date.year));
         line.field(b"00");
         line.field(b"00");
         line

@@ -45,7 +45,7 @@ fn filtered<F: FnOnce(&HostRuntime) -> anyhow::Result<()>>(
     Ok(())
 }
 
-// Such a program from start to end; its status is 0 or 1.
+// Such a program from start to end; its status is 0 or 1, and no clause knows more, since none knows the arguments.
 pub fn filter<F: FnOnce(&HostRuntime) -> anyhow::Result<()>>(
     rt: &HostRuntime,
     name: &str,

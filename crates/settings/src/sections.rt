@@ -9,7 +9,8 @@ use crate::names::Section;
 use crate::strings::{read_messages, read_navigation, read_port};
 use crate::values::{Group, Messages, Pulse, Settings};
 
-// Writes a string over the start of a buffer, and gives its length; the buffer is the caller's, as everywhere on the card.
+// Writes a string over the start of a buffer, and gives its length.
+// The buffer is the caller's, a rule of the project for what is handed out: each byte behind the string stays.
 fn put(out: &mut [u8; 56], string: &[u8]) -> usize
     requires { length string.now ≤ 56 }
     ensures size { result ≡ length string.now }

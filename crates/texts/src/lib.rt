@@ -74,7 +74,7 @@ impl<const N: usize> Text<N> {
         self.push(b'0' + (n % 10) as u8);
     }
 
-    // A number with no leading zero.
+    // A number with no leading zero; by digits for the same reason.
     #[tactic(auto, using(crate::proofs::Cuts::length_cut, crate::proofs::Cuts::whole_of, std::proofs::lemmas::Fmt::decimal_digit))]
     pub fn decimal(&mut self, n: u32)
         ensures cut { self.new ≡ take N (self.old ++ decimal n) }

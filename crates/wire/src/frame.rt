@@ -30,7 +30,7 @@ impl Frame<'_> {
         sum
     }
 
-    // Writes the frame to the start of `out` and gives its length.
+    // Writes the frame to the start of the caller's `out` and gives its length.
     pub fn write(self, out: &mut [u8]) -> Result<usize, Refusal>
         ensures { (result, out.new) ≡ frame_written self.entry.class self.entry.id self.entry.payload.now out.old }
     {

@@ -1,5 +1,5 @@
 // The reading place, and the guard that puts it back.
-ghost use Rattle.std.specs.Prelude.{◌≡◌, false, if◌then◌else◌};
+ghost use Rattle.std.specs.Prelude.{◌≡◌};
 
 // Where in the caller's bytes reading stands.
 #[derive(Clone, Copy, Debug, PartialEq, Eq)]
@@ -7,12 +7,10 @@ pub struct Place {
     pub at: usize,
 }
 
-// A try under way: unless it was accepted, its end puts the place back to the lead byte.
+// A try under way: its end puts the place to `back`, which is the lead byte's place until the try is accepted.
 pub struct Attempt<'a> {
     pub place: &'a mut Place,
-    pub lead: usize,
-    // A flag and no type of its own: `drop` runs on every way out, and asks it which one was taken.
-    pub accepted: bool,
+    pub back: usize,
 }
 
 impl Attempt<'_> {
@@ -20,29 +18,18 @@ impl Attempt<'_> {
     pub fn begin(place: &mut Place) -> Attempt<'_>
         ensures place { result.place.now ≡ place.old }
         ensures held { result.place.ghost_name ≡ place.entry.ghost_name }
-        ensures lead { result.lead ≡ place.old.at }
-        ensures accepted { result.accepted ≡ false }
+        ensures back { result.back ≡ place.old.at }
     {
-        let lead = place.at;
-        Attempt {
-            place,
-            lead,
-            accepted: false,
-        }
+        let back = place.at;
+        Attempt { place, back }
     }
 }
 
 impl Drop for Attempt<'_> {
     fn drop(self)
-        ensures { self.exit.0.now.at ≡ (if self.entry.accepted then self.entry.place.now.at else self.entry.lead) }
+        ensures { self.exit.0.now.at ≡ self.entry.back }
     {
-        if !self.accepted {
-            self.place.at = self.lead;
-        }
-        let Attempt {
-            place: _,
-            lead: _,
-            accepted: _,
-        } = self;
+        self.place.at = self.back;
+        let Attempt { place: _, back: _ } = self;
     }
 }

@@ -46,6 +46,7 @@ fn try_at<'b>(bytes: &'b [u8], ending: Ending, place: &mut Place) -> Result<Item
 }
 
 // The next good frame or sentence from the place on, and the place behind it.
+// Bytes, ending and place come apart: a reader of the three would have to say at each call that bytes and ending stay.
 pub fn read_next<'b>(bytes: &'b [u8], ending: Ending, place: &mut Place) -> Found<'b>
     ensures reads { reading ending bytes.now place.old.at ≡ told bytes.now result (reading ending bytes.now place.new.at) }
     ensures place { place.new.at ≡ leaves bytes.now place.old.at result }

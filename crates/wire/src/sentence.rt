@@ -35,7 +35,7 @@ pub fn hex_digit(n: u8) -> u8
     if n < 10 { b'0' + n } else { b'A' - 10 + n }
 }
 
-// Writes the sentence to the start of `out` and gives its length.
+// Writes the sentence to the start of the caller's `out` and gives its length.
 pub fn write_sentence(body: &[u8], out: &mut [u8]) -> Result<usize, Refusal>
     ensures { (result, out.new) ≡ sentence_written body.now out.old }
 {

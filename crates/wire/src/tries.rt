@@ -45,7 +45,7 @@ fn payload_of(bytes: &[u8], len: usize) -> &[u8]
 }
 
 // A try at a frame, of which the lead byte is there.
-// Each try says what becomes of the place: a struct of bytes and place would have to say besides that the bytes stay.
+// Bytes and place, or bytes and star, come apart in each try: a struct of both would have to say besides that the bytes stay.
 fn try_frame<'b>(bytes: &'b [u8], place: &mut Place) -> Result<Item<'b>, Miss>
     requires { place.old.at + length bytes.now < 2 ^ 64 }
     ensures verdict { seen result ≡ frame_try bytes.now }
@@ -73,7 +73,7 @@ fn try_frame<'b>(bytes: &'b [u8], place: &mut Place) -> Result<Item<'b>, Miss>
         return Err(Miss::Failed);
     }
     attempt.place.at += 4;
-    attempt.accepted = true;
+    attempt.back = attempt.place.at;
     Ok(Item::Frame(frame))
 }
 
@@ -135,7 +135,7 @@ fn try_sized<'b>(bytes: &'b [u8], place: &mut Place) -> Result<Item<'b>, Miss>
     attempt.place.at += 3;
     let item = from_cr(bytes, star)?;
     attempt.place.at += 2;
-    attempt.accepted = true;
+    attempt.back = attempt.place.at;
     Ok(item)
 }
 
