@@ -1,4 +1,5 @@
 // What a frame draws, written to the start of an output.
+// The output is a slice of at least 66 bytes: an array would have to be tested out of the reply.
 ghost use Rattle.std.specs.Prelude.{◌≡◌, ◌+◌, ◌≤◌, true, [], ◌∷◌, length};
 ghost use Rattle.wire.specs.Frames.{frame, lawful_length};
 ghost use Rattle.wire.specs.Seen.{item_of};

@@ -17,6 +17,7 @@ use memory::{Refusal, SettingsMemory};
 use wire::{Ending, Found, Item, Place, read_next};
 
 // One frame or sentence: it acts, and what it draws is written.
+// Reply and tally come apart: a struct of both would hold the caller's loan, and have to say how that ends.
 fn hear_item<M: SettingsMemory>(
     inside: &mut InForce<M>,
     item: Item<'_>,

@@ -79,6 +79,7 @@ pub fn print_refusal(rt: &HostRuntime, refusal: Refusal) -> io::Result<()> {
     println!(rt; "  refused {number}: {refusal}")
 }
 
+// Fix and systems come apart, as for the writers that they go to.
 pub fn print_messages(rt: &HostRuntime, fix: &CheckedFix, systems: Systems) -> io::Result<()> {
     print_sentence::<Gga>(rt, fix, systems)?;
     print_sentence::<Gll>(rt, fix, systems)?;

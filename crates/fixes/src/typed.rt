@@ -131,15 +131,23 @@ fn next<'a>(words: &mut SplitWhitespace<'a>, word: Word) -> Result<&'a str, Faul
     words.next().ok_or(Fault::Missing(word))
 }
 
+// The number in the next word of a line.
+fn next_number<T: FromStr>(words: &mut SplitWhitespace<'_>, word: Word) -> Result<T, Fault>
+where
+    T::Err: Drop,
+{
+    number(word, next(words, word)?)
+}
+
 // The position, from its first word and the words that follow.
 fn position(latitude: &str, words: &mut SplitWhitespace<'_>) -> Result<Position, Fault> {
     let position = Position {
         latitude: number(Word::Latitude, latitude)?,
-        longitude: number(Word::Longitude, next(words, Word::Longitude)?)?,
-        altitude: number(Word::Altitude, next(words, Word::Altitude)?)?,
-        speed: number(Word::Speed, next(words, Word::Speed)?)?,
-        course: number(Word::Course, next(words, Word::Course)?)?,
-        hdop: number(Word::Hdop, next(words, Word::Hdop)?)?,
+        longitude: next_number(words, Word::Longitude)?,
+        altitude: next_number(words, Word::Altitude)?,
+        speed: next_number(words, Word::Speed)?,
+        course: next_number(words, Word::Course)?,
+        hdop: next_number(words, Word::Hdop)?,
     };
     if words.next().is_some() {
         return Err(Fault::TooMany);
@@ -153,9 +161,9 @@ fn moment(words: &mut SplitWhitespace<'_>) -> Result<(Date, Time), Fault> {
     Ok((date, time))
 }
 
-// Run time, time accuracy and ms error.
+// Run time, time accuracy and ms error, a tuple on their way into the fix.
 fn clock(words: &mut SplitWhitespace<'_>) -> Result<(u32, u32, u32), Fault> {
-    let run_time = number(Word::RunTime, next(words, Word::RunTime)?)?;
+    let run_time = next_number(words, Word::RunTime)?;
     let time_accuracy = four_bytes(Word::TimeAccuracy, next(words, Word::TimeAccuracy)?)?;
     let ms_error = four_bytes(Word::MsError, next(words, Word::MsError)?)?;
     Ok((run_time, time_accuracy, ms_error))
@@ -173,9 +181,9 @@ fn place(words: &mut SplitWhitespace<'_>) -> Result<Option<Position>, Fault> {
 pub fn read_fix(line: &str) -> Result<(Fix, Systems), Fault> {
     let mut words = line.split_whitespace();
     let (date, time) = moment(&mut words)?;
-    let systems = number(Word::Systems, next(&mut words, Word::Systems)?)?;
+    let systems = next_number(&mut words, Word::Systems)?;
     let (run_time, time_accuracy, ms_error) = clock(&mut words)?;
-    let satellites = number(Word::Satellites, next(&mut words, Word::Satellites)?)?;
+    let satellites = next_number(&mut words, Word::Satellites)?;
     let position = place(&mut words)?;
     let systems = Systems::new(systems).ok_or(Fault::Wrong(Word::Systems))?;
     let fix = Fix {

@@ -109,6 +109,7 @@ impl<M: SettingsMemory> InForce<M> {
     }
 
     // Erases all sections and brings the factory settings into force, if the writes left suffice.
+    // Not by `write_all`: its outcome would have to be asked whether the factory settings are to follow.
     fn start_from_factory(&mut self) -> Result<Outcome, Refusal>
         ensures answer { result ≡ Ok (if affords (state_of M.meaning self.old) [] 5 then Done else TurnedDown) }
         ensures after { state_of M.meaning self.new ≡ (if affords (state_of M.meaning self.old) [] 5 then stepped (state_of M.meaning self.old) factoried else state_of M.meaning self.old) }

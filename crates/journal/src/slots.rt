@@ -24,6 +24,8 @@ const KEEP: u8 = 1;
 
 const ERASE: u8 = 0;
 
+// Image and section come apart in what follows: one is the journal's, the other the call's.
+
 // How many slots the image has.
 fn slot_count(image: &[u8]) -> usize
     ensures count { result ≡ slots image.now }

@@ -56,7 +56,7 @@ fn word(section: Section) -> &'static str
     }
 }
 
-// The rate of a message.
+// The rate of a message; by message and not all at once, so that a clause says whose rate it is.
 fn rate(settings: &Settings, message: Message) -> u8
     ensures { (d : Entry) → result ≡ (slice_index_or settings.now.messages.entries (place message) d).rate }
 {

@@ -28,6 +28,7 @@ pub fn checksum_of(body: &[u8]) -> u8
     body.iter().fold(0, |all, b| all ^ *b)
 }
 
+// The digit of a number below 16, in capitals: `char::from_digit` gives small letters.
 pub fn hex_digit(n: u8) -> u8
     requires { n < 16 }
     ensures { result ≡ hex_digit n }
