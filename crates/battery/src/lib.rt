@@ -69,7 +69,7 @@ fn clear(image: &mut [u8], at: usize)
 }
 
 // Copies the string of a place, if one stands there, to the start of `out`, and gives its length.
-// The place is a slice, since it lies at a reckoned byte: an array would have to be tested out of the image.
+// The place is a slice, since where it lies is computed from the section: an array would have to be tested out of the image.
 fn copy(place: &[u8], out: &mut [u8; LONGEST]) -> Option<usize>
     requires { length place.now ≡ 64 }
     ensures size { result ≡ option_map length (string_in place.now) }

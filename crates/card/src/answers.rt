@@ -97,7 +97,7 @@ pub(crate) fn accepts(outcome: Outcome) -> usize
     }
 }
 
-// What counts as a command turned down.
+// What counts as a command turned down, likewise.
 pub(crate) fn turns_down(outcome: Outcome) -> usize
     ensures { result ≡ turns_down outcome }
 {

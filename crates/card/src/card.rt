@@ -1,5 +1,5 @@
 // The host's calls on a card.
-ghost use Rattle.std.specs.Prelude.{◌≡◌, ◌+◌, ◌≤◌, List, [], ◌++◌, length, take};
+ghost use Rattle.std.specs.Prelude.{◌≡◌, ◌+◌, ◌≤◌, [], ◌++◌, length};
 ghost use Rattle.rule.specs.Words.{State, in_force, found};
 ghost use Rattle.rule.specs.Calls.{History, start, hears, send_turn, pause_turn, power_turn, Keeps, Goes};
 ghost use Rattle.card.specs.Wholes.{whole_of, answer_of, memory_answer, sheet_answer};

@@ -31,11 +31,10 @@ impl From<sheets::Refusal> for Refusal {
 
 impl Refusal {
     // The number under which the refusal is known on the bench.
-    // A From for u8 would be no plainer: it would not say which number is meant.
     pub fn number(self) -> u8
         ensures { result ≡ number_of self }
     {
-        // By cases and not by discriminant: one case holds a memory's refusal, which has the number.
+        // By cases, and no trait or From, for one case holds a memory's refusal, which has the number.
         match self {
             Refusal::SendTooLong => 1,
             Refusal::ReplyTooShort => 2,

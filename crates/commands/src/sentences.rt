@@ -73,6 +73,7 @@ fn set_rates(rest: &[u8]) -> Option<Command>
 }
 
 // A sentence, by its first field and by what stands behind it.
+// Each arm ends in a Result of its own, since an address that names no command is passed over and not wrong.
 fn request_by(address: &[u8], rest: &[u8]) -> Result<Command, Unheeded>
     ensures { seen_request result ≡ sentence_request address.now rest.now }
 {

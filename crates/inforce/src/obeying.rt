@@ -5,7 +5,7 @@ ghost use Rattle.commands.specs.Commands.{command as asking, starts, optional_ra
 ghost use Rattle.commands.specs.Seen.{change_of, command_of, seen_request};
 ghost use Rattle.rule.specs.Events.{Event, built, powered, factoried, loaded, set, how_many};
 ghost use Rattle.rule.specs.Words.{State, Follows, found};
-ghost use Rattle.rule.specs.Judging.{affords, judged, outcome, heard};
+ghost use Rattle.rule.specs.Judging.{affords, outcome, heard};
 ghost use Rattle.rule.specs.Steps.{stepped, stepped_all, events_of};
 ghost use Rattle.inforce.specs.Has.{state_of};
 ghost use Rattle.inforce.specs.Sections.{writing_event};
@@ -16,6 +16,7 @@ use commands::{Command, Outcome, Rates, Sections, Start, Unheeded};
 use memory::{Refusal, SettingsMemory};
 use settings::{Message, Section, Setting, Settings};
 
+// The memory's `Result` goes through all of these to the card's calls, by a rule of the project, though no refusal can come.
 impl<M: SettingsMemory> InForce<M> {
     // Brings sections into force, as they are kept or from the factory.
     fn load(&mut self, sections: Sections) -> Result<(), Refusal>
@@ -85,6 +86,7 @@ impl<M: SettingsMemory> InForce<M> {
         }
     }
 
+    // Four calls: a loop would first put the messages and their rates into a list of pairs.
     fn set_rates(&mut self, rates: Rates)
         ensures { state_of M.meaning self.new ≡ stepped_all (state_of M.meaning self.old) (map set (four_rates rates.gga rates.gll rates.rmc rates.zda)) }
     {

@@ -2,7 +2,7 @@
 #![tactic(auto)]
 
 ghost use Rattle.std.specs.Prelude.{◌≡◌, true};
-ghost use Rattle.memory.specs.Memory.{known, keepable, keep_answer, keep_after};
+ghost use Rattle.memory.specs.Memory.{known, keepable, keep_answer};
 ghost use Rattle.battery.specs.Places.{battery_meaning, keep_image as battery_after};
 ghost use Rattle.journal.specs.Slots.{writes_left};
 ghost use Rattle.journal.specs.Writes.{Keeps, Erases};

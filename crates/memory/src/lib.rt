@@ -16,7 +16,7 @@ pub enum Refusal {
 
 impl Refusal {
     // The number under which the refusal is known on the bench.
-    // A From for u8 would be no plainer: it would not say which number is meant.
+    // A From for u8 would not say which number is meant, and a trait would have this body for each enum: neither is plainer.
     pub fn number(self) -> u8
         ensures number { result ≡ number self }
         ensures back { refusal result ≡ self }

@@ -137,7 +137,7 @@ impl Line {
         self.field(side(p.longitude, b"E", b"W"));
     }
 
-    // The four fields of a place that is not known.
+    // The four fields of a place that is not known, each by a call: a loop would need an invariant, and be no shorter.
     pub(crate) fn no_place(&mut self)
         requires { length (written self.old) + 4 ≤ 76 }
         ensures text { written self.new ≡ body_of (written self.old) ([] ∷ [] ∷ [] ∷ [] ∷ []) }

@@ -45,7 +45,7 @@ impl fmt::Display for Text<'_> {
     fn fmt<W: fmt::Write>(&self, f: &mut fmt::Formatter<W>) -> fmt::Result {
         for b in self.0 {
             if *b >= b' ' && *b <= b'~' {
-                let c = *b as char;
+                let c = char::from(*b);
                 write!(f, "{c}")?;
             }
         }

@@ -1,5 +1,5 @@
 // Settings at the factory, set one by one, and counted at a fix.
-ghost use Rattle.std.specs.Prelude.{◌≡◌, ℕ, length, get_or, replicate, ◌≢◌, slice_index, slice_set};
+ghost use Rattle.std.specs.Prelude.{◌≡◌, ℕ, replicate, ◌≢◌, slice_index, slice_set};
 ghost use Rattle.settings.specs.Names.{place};
 ghost use Rattle.settings.specs.Values.{values, counts, rates_in, counts_in, factory};
 ghost use Rattle.settings.specs.Entries.{next_count, is_due};

@@ -1,7 +1,7 @@
 // The kept string of each section of the settings, and a section read back.
 ghost use Rattle.std.specs.Prelude.{◌≡◌, ◌≤◌, ◌++◌, length, take, drop, if◌then◌else◌, is_some, Some};
 ghost use Rattle.std.specs.Option.{unwrap_or};
-ghost use Rattle.settings.specs.Values.{values, counts, rates_in, factory};
+ghost use Rattle.settings.specs.Values.{values, counts, factory};
 ghost use Rattle.settings.specs.Strings.{kept_string, is_kept, with_section, read_back};
 ghost use Rattle.settings.specs.Changes.{counts_loaded};
 

@@ -1,7 +1,6 @@
 // The kept string of each setting, and reading it back.
-ghost use Rattle.std.specs.Prelude.{◌≡◌, ◌+◌, ◌≤◌, length, if◌then◌else◌, Some, None, slice_index};
+ghost use Rattle.std.specs.Prelude.{◌≡◌, ◌+◌, ◌≤◌, if◌then◌else◌, Some, None, slice_index};
 ghost use Rattle.std.specs.Option.{option_map};
-ghost use Rattle.numbers.specs.Bytes.{u4_at};
 ghost use Rattle.settings.specs.Bytes.{five_of};
 ghost use Rattle.settings.specs.Ranges.{baud_in_range, interval_in_range, systems_in_range};
 ghost use Rattle.settings.specs.Values.{pulse_values, navigation_values};
@@ -114,7 +113,7 @@ impl Pulse {
 }
 
 impl Group {
-    // The setting that the 56 bytes name.
+    // The setting that the 56 bytes name; no TryFrom, as for the pulse.
     pub fn read(string: &[u8]) -> Option<Group>
         ensures { option_map (λ g. g.bytes) result ≡ (if is_kept GroupSection string.now then Some string.now else None) }
     {

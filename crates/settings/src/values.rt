@@ -1,5 +1,5 @@
 // The settings and their ranges: no value out of its range can be made.
-// Kinds are numbers here, as they are in the strings and frames that carry them: the card hands them on and reads no meaning into them.
+// Codes and masks are numbers here, as in the strings and frames that carry them: an enum would be turned into that number and back at each edge.
 ghost use Rattle.std.specs.Prelude.{◌≡◌, ◌-◌, ◌<◌, ◌≤◌, length};
 
 use crate::names::Message;

@@ -32,6 +32,7 @@ fn field(text: &mut Text<ROOM>, n: u16)
 }
 
 // The eight values, with a comma between two of them and LF at the end.
+// One by one: a loop over the rates would be as long, and hide which value is which.
 fn values_line(settings: &Settings) -> Text<ROOM>
     ensures text { result ≡ values_line (configuration (values settings.now)) }
     ensures len { length result ≤ 48 }

@@ -57,7 +57,7 @@ fn try_frame<'b>(bytes: &'b [u8], place: &mut Place) -> Result<Item<'b>, Miss>
     }
     attempt.place.at += 2;
     let high = byte(bytes, 3)?;
-    let len = u16::from_le_bytes([bytes[2], high]) as usize;
+    let len = usize::from(u16::from_le_bytes([bytes[2], high]));
     attempt.place.at += 2;
     if !is_lawful_length(len) {
         return Err(Miss::Failed);
