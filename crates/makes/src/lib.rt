@@ -2,7 +2,7 @@
 #![tactic(auto)]
 
 ghost use Rattle.std.specs.Prelude.{◌≡◌, true};
-ghost use Rattle.memory.specs.Memory.{known, keepable, keep_answer};
+ghost use Rattle.memory.specs.Memory.{known, keepable, keep_answer, keep_after};
 ghost use Rattle.battery.specs.Places.{battery_meaning, keep_image as battery_after};
 ghost use Rattle.journal.specs.Slots.{writes_left};
 ghost use Rattle.journal.specs.Writes.{Keeps, Erases};
@@ -27,6 +27,24 @@ pub fn erase_in(image: &mut [u8], section: u8) -> Result<(), Refusal>
     Journal::new(image).erase(section)
 }
 
+// Offers a string to a battery memory and to a journal.
+// Apart from `keep_both`: tried as one, whose proof the search did not close.
+fn offer(
+    battery: &mut Battery,
+    image: &mut [u8],
+    section: u8,
+    bytes: &[u8],
+) -> (Result<(), Refusal>, Result<(), Refusal>)
+    ensures answer { result.0 ≡ keep_answer (battery_meaning battery.old.image) section bytes.now }
+    ensures battery { battery.new.image ≡ battery_after battery.old.image section bytes.now }
+    ensures journal { Keeps image.old image.new section bytes.now result.1 }
+    ensures after { battery_meaning battery.new.image ≡ keep_after (battery_meaning battery.old.image) section bytes.now }
+{
+    let by_battery = battery.keep(section, bytes);
+    let by_journal = keep_in(image, section, bytes);
+    (by_battery, by_journal)
+}
+
 // Offers a string to both makes: where the journal has no writes left, the battery keeps it and the journal refuses it.
 pub fn keep_both(
     battery: &mut Battery,
@@ -39,9 +57,7 @@ pub fn keep_both(
     ensures journal { Keeps image.old image.new section bytes.now result.1 }
     ensures full { keepable section bytes.now ≡ true → writes_left image.old ≡ 0 → FullJournal battery.new.image image.old image.new section bytes.now result.0 result.1 }
 {
-    let by_battery = battery.keep(section, bytes);
-    let by_journal = keep_in(image, section, bytes);
-    (by_battery, by_journal)
+    offer(battery, image, section, bytes)
 }
 
 // Whether the settings have a section of a number: exactly the numbers that a memory knows.

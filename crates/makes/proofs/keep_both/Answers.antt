@@ -20,13 +20,12 @@ returns-clause-full c ok none =
     let q = le-ltb 56 (length b) few in
     let t : ltb (writes_left xs) 1 ≡ true = lt-ltb (writes_left xs) 1 (omega arith) in
     let d = keep_done (battery_meaning held) s k (omega arith) b few in
-    let by = c.keep-by_battery.ensures in
-    let journal = c.keep_in-by_journal.ensures in
+    let by = c.offer.ensures in
     let no : keep_answer (journal_meaning xs) s b ≡ Err NoWritesLeft = rw (k, q, t) in
     let stays : keep_image xs s b ≡ xs = rw (k, q, t) in
     record {
       done = by.answer ∙ d.0;
       kept = ap (λ m. m.string s) (by.after ∙ d.1) ∙ cond-true (eqb s s) (Some b) (battery_string held s) (eq-eqb s s refl);
-      refused = journal.answer ∙ no;
-      same = journal.image ∙ stays;
+      refused = by.journal.answer ∙ no;
+      same = by.journal.image ∙ stays;
     }
