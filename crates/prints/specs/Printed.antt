@@ -1,14 +1,11 @@
 -- Bytes in print.
-use Rattle.std.specs.Prelude.{ℕ, ◌+◌, ◌/◌, ◌%◌, Bool, cond, ◌&&◌, List, [], ◌∷◌, filter, nat_le, nat_lt}
+use Rattle.std.specs.Prelude.{ℕ, ◌/◌, ◌%◌, Bool, true, ◌&&◌, List, [], ◌∷◌, filter, nat_le}
+use Rattle.std.specs.Fmt.{digit_glyph}
 use Rattle.std.specs.List.{flat_map}
 
--- the digit of a number below 16: 0 to 9, A to F
-abbrev pub hex_digit : ℕ → ℕ
-hex_digit n = cond (nat_lt n 10) (0x30 + n) (0x37 + n)
-
--- a byte in hex, behind a space
+-- a byte in hex, in capitals and behind a space
 abbrev pub pair : ℕ → List ℕ
-pair b = 0x20 ∷ hex_digit (b / 16) ∷ hex_digit (b % 16) ∷ []
+pair b = 0x20 ∷ digit_glyph true (b / 16) ∷ digit_glyph true (b % 16) ∷ []
 
 -- some bytes in hex
 abbrev pub in_hex : List ℕ → List ℕ

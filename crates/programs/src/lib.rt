@@ -2,6 +2,7 @@
 #![tactic(auto)]
 
 ghost use Rattle.std.specs.Prelude.{◌≡◌, ◌≤◌, if◌then◌else◌, is_ok};
+ghost use Rattle.std.specs.Process.{exit_status};
 
 use anyhow::anyhow;
 use std::process::ExitCode;
@@ -13,7 +14,7 @@ pub fn ended<E: fmt::Display + Drop>(
     name: &str,
     outcome: Result<(), E>,
 ) -> ExitCode
-    ensures { result.status ≡ (if is_ok outcome then 0 else 1) }
+    ensures { exit_status result ≡ (if is_ok outcome then 0 else 1) }
 {
     match outcome {
         Ok(()) => ExitCode::SUCCESS,
@@ -54,7 +55,7 @@ pub fn filter<F: FnOnce(&HostRuntime) -> anyhow::Result<()>>(
     job: F,
 ) -> ExitCode
     requires { F.pre job rt }
-    ensures { result.status ≤ 1 }
+    ensures { exit_status result ≤ 1 }
 {
     ended(rt, name, filtered(rt, help, input, job))
 }
