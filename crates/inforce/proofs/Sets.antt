@@ -82,8 +82,8 @@ counts_as c five (Group x) m = sym (ap (λ t. cond t 0 (get_or c (place m) 0)) (
 pub set_step : (s t : Settings) (x : Setting) (k : Strings) (l p : ℕ) → values t ≡ with_setting (values s) x → counts t ≡ counts_set (counts s) x
     → record { settings = settings_of t; count = count_of t; string = k; left = l; price = p } ≡ stepped (record { settings = settings_of s; count = count_of s; string = k; left = l; price = p }) (event.set (change_of x))
 set_step s t x k l p ev ec =
-    let rates : length (values s).rates ≡ 5 = length-map s.messages.entries (λ e. e.rate) ∙ s.messages.five in
-    let entries : length (counts s) ≡ 5 = length-map s.messages.entries (λ e. e.count) ∙ s.messages.five in
+    let rates : length (values s).rates ≡ 5 = length-map s.messages.entries (λ e. e.rate) ∙ s.five in
+    let entries : length (counts s) ≡ 5 = length-map s.messages.entries (λ e. e.count) ∙ s.five in
     let settings = ap configuration ev ∙ set_as (values s) rates x in
     let count : (m : Message) → count_of t m ≡ cond (touches (event.set (change_of x)) (rate m)) 0 (count_of s m) = λ m. ap (λ c. get_or c (place m) 0) ec ∙ counts_as (counts s) entries x m in
     let left : l ≡ l - 0 * p = omega arith in

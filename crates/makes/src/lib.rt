@@ -71,7 +71,7 @@ pub fn has_section(number: u8) -> bool
 mod tests {
     use super::*;
     use keeping::{keep_section, load_section};
-    use settings::{Interval, Message, Setting, Settings};
+    use settings::{Interval, Message, Messages, Setting, Settings};
     use std::alloc::{AllocError, Global};
     use std::iter::repeat_n;
     use std::process::Abort;
@@ -336,6 +336,19 @@ mod tests {
             keep_section(&mut journal, &Settings::factory(), Section::Port),
             Err(Refusal::NoWritesLeft)
         );
+    }
+
+    // Whoever is lent the table of messages counts a fix for one of them in its place.
+    fn counted(messages: &mut Messages) -> bool {
+        messages.entries[2].advance()
+    }
+
+    #[test]
+    fn entry_of_a_lent_table(rt: HostRuntime) {
+        let mut messages = Messages::new([1, 0, 2, 1, 0]);
+        assert!(rt; !counted(&mut messages));
+        assert!(rt; counted(&mut messages));
+        assert_eq!(rt; messages.rates(), [1, 0, 2, 1, 0]);
     }
 
     #[test]

@@ -16,7 +16,7 @@ pub back : (s : Settings) (section : Section) → read_back (values s) section (
 back s Port = let c = le-leb s.baud.code 5 s.baud.range in rw c
 back s Messages =
     let v = values s in
-    let n : length v.rates ≡ 5 = length-map s.messages.entries (λ e. e.rate) ∙ s.messages.five in
+    let n : length v.rates ≡ 5 = length-map s.messages.entries (λ e. e.rate) ∙ s.five in
     let named : List ℕ → Values = λ r. record { baud = v.baud; rates = r; interval = v.interval; systems = v.systems; pulse = v.pulse; group = v.group } in
     cond-true (eqb (length v.rates) 5) (Some (named (five_of v.rates))) None (eq-eqb (length v.rates) 5 n) ∙ ap (λ r. Some (named r)) (sym (five_is v.rates n))
 back s Navigation =

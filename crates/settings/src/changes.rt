@@ -1,5 +1,5 @@
 // Settings at the factory, set one by one, and counted at a fix.
-ghost use Rattle.std.specs.Prelude.{◌≡◌, ℕ, replicate, ◌≢◌, slice_index, slice_set};
+ghost use Rattle.std.specs.Prelude.{◌≡◌, ℕ, length, replicate, ◌≢◌, slice_index, slice_set};
 ghost use Rattle.settings.specs.Names.{place};
 ghost use Rattle.settings.specs.Values.{values, counts, rates_in, counts_in, factory};
 ghost use Rattle.settings.specs.Entries.{next_count, is_due};
@@ -36,6 +36,7 @@ impl Messages {
     pub fn new(rates: [u8; 5]) -> Messages
         ensures rates { rates_in result.entries ≡ rates }
         ensures counts { counts_in result.entries ≡ replicate 5 0 }
+        ensures size { length result.entries ≡ 5 }
     {
         Messages {
             entries: rates.map(Entry::new),
@@ -53,6 +54,7 @@ impl Messages {
     fn set_rate(&mut self, message: Message, rate: u8)
         ensures rates { rates_in self.new.entries ≡ slice_set (rates_in self.old.entries) (place message) rate }
         ensures counts { counts_in self.new.entries ≡ slice_set (counts_in self.old.entries) (place message) 0 }
+        ensures size { length self.new.entries ≡ length self.old.entries }
     {
         self.entries[message.place()] = Entry::new(rate);
     }
@@ -61,10 +63,10 @@ impl Messages {
     fn advance(&mut self, message: Message) -> bool
         ensures rates { rates_in self.new.entries ≡ rates_in self.old.entries }
         ensures counts { counts_in self.new.entries ≡ counts_fixed (rates_in self.old.entries) (counts_in self.old.entries) (place message) }
+        ensures size { length self.new.entries ≡ length self.old.entries }
         ensures due { result ≡ is_due (slice_index (rates_in self.old.entries) (place message)) (slice_index (counts_in self.old.entries) (place message)) }
     {
-        let Messages { entries } = self;
-        entries[message.place()].advance()
+        self.entries[message.place()].advance()
     }
 }
 

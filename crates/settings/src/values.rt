@@ -71,7 +71,6 @@ pub struct Entry {
 #[derive(Clone, Copy)]
 pub struct Messages {
     pub entries: [Entry; 5],
-    ghost five: { length entries ≡ 5 },
 }
 
 // All settings together; the five rates stand in the table of messages.
@@ -83,6 +82,7 @@ pub struct Settings {
     pub systems: Systems,
     pub pulse: Pulse,
     pub group: Group,
+    ghost five: { length messages.entries ≡ 5 },
 }
 
 // One setting with its value.
