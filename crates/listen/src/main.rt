@@ -1,7 +1,7 @@
 // Lists the frames and sentences in a capture of the line, from standard input.
 #![tactic(auto)]
 
-ghost use Rattle.std.specs.Prelude.{◌≤◌, length, IfOk};
+ghost use Rattle.std.specs.Prelude.{◌≡◌, ◌≤◌, ◌++◌, length, take, drop, IfOk};
 ghost use Rattle.listen.specs.Listing.{Lists, Takes};
 
 use arrayvec::ArrayVec;
@@ -23,8 +23,11 @@ and how many bytes were stray.";
 // How many bytes are read at once.
 const PIECE: usize = 65536;
 
-// Room for a piece behind the most bytes that reading leaves unread.
-const ROOM: usize = 65617;
+// The most bytes that reading leaves unread.
+const UNREAD: usize = 81;
+
+// Room for a piece behind as many bytes.
+const ROOM: usize = UNREAD + PIECE;
 
 // Where the unread rest of some bytes begins, and how many bytes the frames and sentences before it have.
 #[derive(Clone, Copy)]
@@ -79,20 +82,33 @@ struct Held {
     good: u64,
 }
 
-// Lists a piece behind the unread bytes, which are then those that it leaves unread.
-// They are no part of `Held`: while a piece is listed there are more of them than are held.
+// The unread bytes and `n` bytes of a piece behind them. The piece stands at its place in the room, and they are
+// copied in front of it: they are few, and a piece that was copied behind them would cost as much again as its reading.
+fn joined<'a>(unread: &[u8], room: &'a mut [u8; ROOM], n: usize) -> &'a [u8]
+    requires { (length unread.now ≤ 81) × (n ≤ 65536) }
+    ensures { result.now ≡ unread.now ++ take n (drop 81 room.old) }
+{
+    let start = UNREAD - unread.len();
+    room[start..UNREAD].copy_from_slice(unread);
+    &room[start..UNREAD + n]
+}
+
+// Lists `n` bytes of a piece behind the unread bytes, which are then those that it leaves unread.
+// They are no part of `Held`, nor of the room: a vector knows how many of them there are.
 fn take_in(
     rt: &HostRuntime,
-    unread: &mut ArrayVec<u8, ROOM>,
-    piece: &[u8],
+    unread: &mut ArrayVec<u8, UNREAD>,
+    room: &mut [u8; ROOM],
+    n: usize,
     held: Held,
 ) -> io::Result<Held>
-    requires { (length unread.old.items ≤ 81) × (length piece.now ≤ 65536) }
-    ensures { IfOk result (Takes unread.old.items piece.now unread.new.items held) }
+    requires { n ≤ 65536 }
+    ensures { IfOk result (Takes unread.old.items (take n (drop 81 room.old)) unread.new.items held) }
 {
-    let _ = unread.try_extend_from_slice(piece);
-    let Listed { rest, good } = list(rt, unread.as_slice(), Ending::More, held.start)?;
-    unread.drain(..rest);
+    let whole = joined(unread.as_slice(), room, n);
+    let Listed { rest, good } = list(rt, whole, Ending::More, held.start)?;
+    unread.clear();
+    let _ = unread.try_extend_from_slice(&whole[rest..]);
     Ok(Held {
         start: held.start.saturating_add(rest as u64),
         good: held.good.saturating_add(good as u64),
@@ -100,19 +116,17 @@ fn take_in(
 }
 
 // Lists standard input to its end, as its bytes come; what is left unread stays in `unread`.
-fn take_all(rt: &HostRuntime, unread: &mut ArrayVec<u8, ROOM>) -> io::Result<Held>
-    requires { length unread.old.items ≤ 81 }
-{
+fn take_all(rt: &HostRuntime, unread: &mut ArrayVec<u8, UNREAD>) -> io::Result<Held> {
     let mut held = Held { start: 0, good: 0 };
-    let mut piece = [0u8; PIECE];
+    let mut room = [0u8; ROOM];
     let mut input = rt.stdin();
     // A `for` where Rust has a `loop`: every function is proved to end, and standard input need not.
     for _ in 0..u64::MAX {
-        let n = input.read(&mut piece)?;
+        let n = input.read(&mut room[UNREAD..])?;
         if n == 0 {
             break;
         }
-        held = take_in(rt, unread, &piece[..n], held)?;
+        held = take_in(rt, unread, &mut room, n, held)?;
     }
     Ok(held)
 }
