@@ -20,15 +20,15 @@ const LONGEST_SEND: usize = 256;
 // The least room for a reply.
 const REPLY_ROOM: usize = 2304;
 
-// Two runs of bytes that there is room for, one behind the other.
-fn joined<const N: usize>(front: &[u8], back: &[u8]) -> ArrayVec<u8, N>
+// Fills a vector with two runs of bytes that there is room for, one behind the other.
+// In its place: a vector that is handed out is copied on its way, which a short send or a pause would pay for.
+fn join<const N: usize>(into: &mut ArrayVec<u8, N>, front: &[u8], back: &[u8])
     requires { length front.now + length back.now ≤ N }
-    ensures { result.items ≡ front.now ++ back.now }
+    ensures { into.new.items ≡ front.now ++ back.now }
 {
-    let mut all = ArrayVec::new();
-    let _ = all.try_extend_from_slice(front);
-    let _ = all.try_extend_from_slice(back);
-    all
+    into.clear();
+    let _ = into.try_extend_from_slice(front);
+    let _ = into.try_extend_from_slice(back);
 }
 
 impl<M: SettingsMemory> Card<M> {
@@ -53,12 +53,13 @@ impl<M: SettingsMemory> Card<M> {
         requires room { 2304 ≤ length reply.old }
         ensures { (b : State) (h : History) → Keeps b h (whole_of M.meaning self.old) → Goes b (hears b h ending bytes.now) (memory_answer result) reply.old reply.new (whole_of M.meaning self.new) }
     {
-        let whole = joined::<337>(self.unread.as_slice(), bytes);
+        let mut whole = ArrayVec::<u8, 337>::new();
+        join(&mut whole, self.unread.as_slice(), bytes);
         let all = whole.as_slice();
         let mut place = Place { at: 0 };
         let mut tally = Tally::default();
         hear_all(&mut self.inside, all, ending, reply, &mut place, &mut tally)?;
-        self.unread = joined(&all[place.at..], &[]);
+        join(&mut self.unread, &all[place.at..], &[]);
         Ok((tally.written, tally.accepted, tally.down))
     }
 

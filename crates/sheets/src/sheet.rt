@@ -33,22 +33,21 @@ fn field(text: &mut Text<ROOM>, n: u16)
 
 // The eight values, with a comma between two of them and LF at the end.
 // One by one: a loop over the rates would be as long, and hide which value is which.
-fn values_line(settings: &Settings) -> Text<ROOM>
-    ensures text { result ≡ values_line (configuration (values settings.now)) }
-    ensures len { length result ≤ 48 }
+fn values_line(text: &mut Text<ROOM>, settings: &Settings)
+    requires { length text.old + 48 ≤ 96 }
+    ensures text { text.new ≡ text.old ++ values_line (configuration (values settings.now)) }
+    ensures len { length text.new ≤ length text.old + 48 }
 {
     let [gga, gll, rmc, zda, utc] = settings.messages.rates();
-    let mut text = Text::new();
-    number(&mut text, u16::from(settings.baud.code));
-    field(&mut text, u16::from(gga));
-    field(&mut text, u16::from(gll));
-    field(&mut text, u16::from(rmc));
-    field(&mut text, u16::from(zda));
-    field(&mut text, u16::from(utc));
-    field(&mut text, settings.interval.milliseconds);
-    field(&mut text, u16::from(settings.systems.mask));
+    number(text, u16::from(settings.baud.code));
+    field(text, u16::from(gga));
+    field(text, u16::from(gll));
+    field(text, u16::from(rmc));
+    field(text, u16::from(zda));
+    field(text, u16::from(utc));
+    field(text, settings.interval.milliseconds);
+    field(text, u16::from(settings.systems.mask));
     text.push(b'\n');
-    text
 }
 
 // The line of names, and the line of values.
@@ -58,7 +57,7 @@ fn sheet(settings: &Settings) -> Text<ROOM>
 {
     let mut text = Text::new();
     text.append(b"baud,gga,gll,rmc,zda,utc,interval,systems\n");
-    text.append(values_line(settings).as_bytes());
+    values_line(&mut text, settings);
     text
 }
 
