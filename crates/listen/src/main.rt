@@ -83,7 +83,7 @@ struct Held {
 }
 
 // The unread bytes and `n` bytes of a piece behind them. The piece stands at its place in the room, and they are
-// copied in front of it: they are few, and a piece that was copied behind them would cost as much again as its reading.
+// copied in front of it: they are few, and a piece that was copied behind them would be written over again.
 fn joined<'a>(unread: &[u8], room: &'a mut [u8; ROOM], n: usize) -> &'a [u8]
     requires { (length unread.now ≤ 81) × (n ≤ 65536) }
     ensures { result.now ≡ unread.now ++ take n (drop 81 room.old) }
@@ -94,7 +94,7 @@ fn joined<'a>(unread: &[u8], room: &'a mut [u8; ROOM], n: usize) -> &'a [u8]
 }
 
 // Lists `n` bytes of a piece behind the unread bytes, which are then those that it leaves unread.
-// They are no part of `Held`, nor of the room: a vector knows how many of them there are.
+// They are no part of `Held`: it is handed out, and a vector in it would be copied on its way.
 fn take_in(
     rt: &HostRuntime,
     unread: &mut ArrayVec<u8, UNREAD>,
