@@ -4,7 +4,7 @@ use borrow.Rule.Slice.PartMut.{mid_of, post_of, put_mid}
 use Rattle.std.proofs.lemmas.List.{drop_at, drop-drop}
 use Rattle.std.proofs.Math.Seq.{take-append-add}
 
--- what stands from them on are they and the piece
+-- from the first of these bytes on stand they, and then the piece
 pub in_front : (u xs : List ℕ) (n : ℕ) → length u ≤ 81 → 81 ≤ length xs → mid_of (81 - length u) (81 + n - (81 - length u)) (put_mid (81 - length u) (81 - (81 - length u)) xs u) ≡ u ++ take n (drop 81 xs)
 in_front u xs n few room =
     let a : ℕ = 81 - length u in
